@@ -1,0 +1,8 @@
+-- The computed closure (Facts, Join, Closure), the verdict (Verdict), differences (Differences) and the largest distance (Distance),
+-- each with the theorem that ties it to the rules.
+pub mod Facts
+pub mod Join
+pub mod Closure
+pub mod Verdict
+pub mod Differences
+pub mod Distance

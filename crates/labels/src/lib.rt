@@ -1,0 +1,1 @@
+// Laws of labellings by representatives and offsets, in specs/. No code.

@@ -1,0 +1,5 @@
+-- Lists by the numbers of their items: searches, and lists collected from others.
+pub mod Items
+pub mod Search
+pub mod Collect
+pub mod Tabulate

@@ -1,0 +1,1 @@
+// Searches in lists and their laws, in specs/. No code.

@@ -1,0 +1,123 @@
+-- Paper 01's marked examples W1 to W12.
+use Prim.Native.Nat.{ℕ}
+use mathlib.Core.Path.{_≡_, refl}
+use mathlib.Core.List.{List, [], _∷_, map}
+use lib.IntN.{ℤ, pos, negsuc}
+use Rattle.types.specs.declared.Verdict.{Verdict}
+use Rattle.types.specs.declared.Verdict.the-variants.{Satisfiable, Contradiction}
+use Rattle.rules.specs.Terms.{Term, variable, auxiliary, deref, Proposition, equality, disequality, block-disequality, Comparison}
+use Rattle.closure.specs.Facts.{comparison}
+use Rattle.integers.specs.Compare.{eqℤ}
+use Rattle.lists.specs.Search.{find, any, findPair}
+use Rattle.lists.specs.Collect.{collect, cross}
+use Rattle.lists.specs.Tabulate.{tabulate, select}
+use Rattle.closure.specs.Facts.{facts}
+use Rattle.closure.specs.Join.{placed, own, link, join, total}
+use Rattle.closure.specs.Closure.{derefs, sameAddress, unjoined, joinAll, close, rounds, closure}
+use Rattle.closure.specs.Verdict.{holds, together, clash, conflicting, contradictory}
+use Rattle.closure.specs.Differences.{classesOf, movedTo, otherOffset, apart, moved, differentBase, reads, differentIn, different}
+use Rattle.outcome.specs.Blame.{keptContradictory, dropBelow, blame}
+use Rattle.outcome.specs.PairBits.{number, pairBit, pairBits}
+use Rattle.outcome.specs.Outcome.{Outcome, outcome, satisfiable, contradiction, answer}
+
+pub record Example : Type 0 where
+  pub terms : List Term
+  pub propositions : List Proposition
+  pub questions : List Comparison
+  pub leaves : Outcome
+
+-- terms, propositions, questions; then verdict, representatives, offsets, marks, pair bits, answers
+abbrev example : List Term → List Proposition → List Comparison → Verdict → List ℕ → List ℤ → List ℕ → List ℕ → List ℕ → Example
+example ts ps qs v rs os ms bits answers = record {
+  terms = ts;
+  propositions = ps;
+  questions = qs;
+  leaves = record { verdict = v; representatives = rs; offsets = os; marks = ms; pairs = bits; answers = answers };
+}
+
+abbrev a : Term
+a = auxiliary 0
+
+abbrev b : Term
+b = auxiliary 1
+
+abbrev c : Term
+c = auxiliary 2
+
+-- W1 to W12, in order
+unfoldable pub examples : List Example
+examples =
+    example [] [] [] Satisfiable [] [] [] [] []
+    ∷ example (a ∷ []) (equality 0 (pos 0) 0 ∷ []) [] Satisfiable (0 ∷ []) (pos 0 ∷ []) (0 ∷ []) (0 ∷ []) []
+    ∷ example (a ∷ []) (equality 0 (pos 1) 0 ∷ []) [] Contradiction (0 ∷ []) (pos 0 ∷ []) (1 ∷ []) (0 ∷ []) []
+    ∷ example (a ∷ []) (disequality 0 (pos 1) 0 ∷ []) [] Satisfiable (0 ∷ []) (pos 0 ∷ []) (0 ∷ []) (0 ∷ []) []
+    ∷ example (a ∷ []) (block-disequality 0 0 ∷ []) [] Contradiction (0 ∷ []) (pos 0 ∷ []) (1 ∷ []) (0 ∷ []) []
+    ∷ example (variable 1 ∷ variable 2 ∷ []) (equality 0 (pos 8) 1 ∷ []) [] Contradiction (0 ∷ 1 ∷ []) (pos 0 ∷ pos 0 ∷ []) (1 ∷ []) (0 ∷ []) []
+    ∷ example
+    (a ∷ b ∷ deref (pos 0) 0 ∷ deref (pos 0) 1 ∷ deref (pos 0) 2 ∷ deref (pos 0) 3 ∷ [])
+    (equality 0 (pos 0) 1 ∷ [])
+    (comparison 4 (pos 0) 5 ∷ [])
+    Satisfiable
+    (0 ∷ 0 ∷ 2 ∷ 2 ∷ 4 ∷ 4 ∷ [])
+    (pos 0 ∷ pos 0 ∷ pos 0 ∷ pos 0 ∷ pos 0 ∷ pos 0 ∷ [])
+    (0 ∷ [])
+    (0 ∷ 0 ∷ 0 ∷ 0 ∷ 0 ∷ [])
+    (1 ∷ [])
+    ∷ example
+    (a ∷ b ∷ [])
+    (equality 0 (pos 0) 1 ∷ equality 0 (pos 0) 1 ∷ disequality 0 (pos 0) 1 ∷ [])
+    []
+    Contradiction
+    (0 ∷ 1 ∷ [])
+    (pos 0 ∷ pos 0 ∷ [])
+    (1 ∷ 0 ∷ 1 ∷ [])
+    (0 ∷ [])
+    []
+    ∷ example
+    (a ∷ b ∷ deref (pos 0) 0 ∷ deref (pos 1) 0 ∷ deref (pos 0) 1 ∷ deref (pos 1) 1 ∷ [])
+    (equality 4 (pos 0) 3 ∷ disequality 2 (pos 0) 5 ∷ [])
+    (comparison 0 (pos 1) 1 ∷ comparison 0 (pos 0) 1 ∷ [])
+    Satisfiable
+    (0 ∷ 1 ∷ 2 ∷ 3 ∷ 3 ∷ 5 ∷ [])
+    (pos 0 ∷ pos 0 ∷ pos 0 ∷ pos 0 ∷ pos 0 ∷ pos 0 ∷ [])
+    (0 ∷ 0 ∷ [])
+    (0 ∷ 0 ∷ 2 ∷ 0 ∷ 1 ∷ [])
+    (2 ∷ 0 ∷ [])
+    ∷ example
+    (a ∷ b ∷ [])
+    (equality 0 (negsuc 2147483647) 1 ∷ [])
+    []
+    Satisfiable
+    (0 ∷ 0 ∷ [])
+    (pos 0 ∷ pos 2147483648 ∷ [])
+    (0 ∷ [])
+    (6 ∷ [])
+    []
+    ∷ example
+    (variable 1 ∷ auxiliary 1 ∷ deref (pos 0) 0 ∷ deref (pos 4) 1 ∷ [])
+    (equality 1 (negsuc 3) 0 ∷ disequality 3 (pos 0) 2 ∷ [])
+    (comparison 3 (pos 0) 2 ∷ comparison 0 (pos 4) 1 ∷ comparison 0 (pos 0) 1 ∷ comparison 2 (pos 0) 0 ∷ [])
+    Contradiction
+    (0 ∷ 1 ∷ 2 ∷ 3 ∷ [])
+    (pos 0 ∷ pos 0 ∷ pos 0 ∷ pos 0 ∷ [])
+    (1 ∷ 1 ∷ [])
+    (0 ∷ 0 ∷ [])
+    (3 ∷ 3 ∷ 3 ∷ 3 ∷ [])
+    ∷ example
+    (a ∷ b ∷ c ∷ deref (pos 0) 0 ∷ deref (pos 0) 1 ∷ [])
+    (equality 2 (pos 0) 0 ∷ disequality 3 (pos 0) 4 ∷ [])
+    (comparison 0 (pos 0) 1 ∷ comparison 2 (pos 0) 1 ∷ [])
+    Satisfiable
+    (0 ∷ 1 ∷ 0 ∷ 3 ∷ 4 ∷ [])
+    (pos 0 ∷ pos 0 ∷ pos 0 ∷ pos 0 ∷ pos 0 ∷ [])
+    (0 ∷ 0 ∷ [])
+    (34 ∷ 0 ∷ 136 ∷ 0 ∷ [])
+    (2 ∷ 0 ∷ [])
+    ∷ []
+
+-- each example leaves just what is listed for it
+pub examples-hold : map (λ e. outcome (e .terms) (e .propositions) (e .questions)) examples ≡ map (λ e. e .leaves) examples
+unfolding examples outcome satisfiable contradiction answer blame dropBelow keptContradictory pairBits pairBit number
+    contradictory conflicting holds together clash different differentIn differentBase reads moved apart otherOffset movedTo classesOf
+    closure close rounds joinAll unjoined sameAddress derefs join link placed own total facts eqℤ find any findPair collect cross tabulate select
+examples-hold = refl

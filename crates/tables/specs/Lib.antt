@@ -1,0 +1,6 @@
+-- Limits and records, the solver's refusals, and what a call of the solver leaves.
+pub mod Limits
+pub mod Records
+pub mod Refusals
+pub mod Call
+pub mod Accepted

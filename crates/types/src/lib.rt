@@ -1,0 +1,58 @@
+// The types of the library's answers. specs/Numbers.antt gives the numbers of paper 01 for each case.
+
+// The verdict on an accepted set.
+pub enum Verdict {
+    Satisfiable,
+    Contradiction,
+}
+
+// The answer to a question.
+pub enum Answer {
+    Neither,
+    Equal,
+    Different,
+    Contradictory,
+}
+
+// Why tables or a text are refused.
+pub enum Refusal {
+    TooManyTerms,
+    TooManyPropositions,
+    TooManyQuestions,
+    // A dereference names a term not listed before it.
+    InnerNotListed,
+    // An atom is listed twice.
+    AtomListedTwice,
+    // A proposition names a term not listed.
+    PropositionTermNotListed,
+    // A question names a term not listed.
+    QuestionTermNotListed,
+    // Lent memory, or an input table, is shorter than needed.
+    TooShort,
+    // A frame or a record is badly formed.
+    Malformed,
+    // A frame of an earlier group after one of a later group.
+    GroupOrder,
+}
+
+// What the tests of a call's tables and memory find: nothing, or the first refusal and its place.
+pub enum Checked {
+    Accepted,
+    Refused(Refusal, usize),
+}
+
+// What a call of the solver returns: the verdict, or the refusal and its place.
+pub enum Solved {
+    Satisfiable,
+    Contradiction,
+    Refused(Refusal, usize),
+}
+
+// A number in the table of terms.
+pub struct TermNumber(pub usize);
+
+// A number in the table of propositions.
+pub struct PropositionNumber(pub usize);
+
+// A number in the table of questions.
+pub struct QuestionNumber(pub usize);

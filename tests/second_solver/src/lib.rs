@@ -1,0 +1,15 @@
+//! Independent second solver of Bucketmonk, written from the scope paper and
+//! its two sources. It is not proved; it is the partner against which the
+//! proved solver is compared.
+//!
+//! - `tables`: the solver on column tables and lent memory.
+//! - `reader`: the reader of the text form.
+//! - `program`: the output of the whole program for a text.
+//! - `brute`: a naive reference, used only by the tests of this package.
+
+#![forbid(unsafe_code)]
+
+pub mod brute;
+pub mod program;
+pub mod reader;
+pub mod tables;
