@@ -10,20 +10,17 @@ use lib.Dec.{eqb, ltb, leb}
 use lib.IntN.{ℤ, pos, negsuc}
 use lib.ListN.{length, getD}
 use borrow.Author.Tests.{eqb-true, eq-eqb, leb-false, ltb-true, ltb-false, le-ltb}
-use Rattle.integers.specs.Linear.{up, dn}
-use Rattle.integers.specs.Compare.{eqℤ, eqℤ-true}
-use Rattle.lists.specs.Items.{Item, In, item-below, item-getD}
-use Rattle.lists.specs.Search.{choose, any}
+use Rattle.lists.specs.Items.{Item, In, item-below, item-getD, getD-item}
+use Rattle.lists.specs.Search.{choose, any, any-false}
 use Rattle.lists.specs.Tabulate.{tabulate, length-tabulate, tabulate-at}
 use Rattle.types.specs.declared.Refusal.{Refusal}
 use Rattle.types.specs.declared.Refusal.the-variants.{InnerNotListed, AtomListedTwice, PropositionTermNotListed, QuestionTermNotListed}
 use Rattle.rules.specs.Terms.{Term, variable, auxiliary, deref, Proposition, equality, disequality, block-disequality, Comparison, Given, DistinctVariables, listed, WellFormed}
-use Rattle.labels.specs.Spread.{Within}
 use Rattle.labels.specs.Steps.{Bounded}
-use Rattle.closure.specs.Closure.{and-true}
 use Rattle.outcome.specs.PairBits.{pairBytes}
 use Rattle.tables.specs.Limits.{most, offsetLimit}
-use Rattle.tables.specs.Records.{TermRecord, PropositionRecord, variableKind, auxiliaryKind, derefKind, equalityKind, disequalityKind, blockDisequalityKind, when, atomRecord, offsetInRange, termOf, propositionOf, questionOf, sameAtom}
+use Rattle.tables.specs.Records.{TermRecord, PropositionRecord, variableKind, derefKind, equalityKind, disequalityKind, blockDisequalityKind, termOf, propositionOf, questionOf, sameAtom}
+use Rattle.tables.specs.Stands.{StandsFor, stands-for, deref-by-kind, variable-by-kind, leftOf, rightOf, Asserts, asserts, equality-by-kind, disequality-by-kind, block-by-kind}
 use Rattle.tables.specs.Refusals.{Fault, fault, orElse, refuseIf, malformed, atPlace, firstFault, termNameFault, propositionNameFault, questionNameFault, termFault, propositionFault, questionFault}
 use Rattle.tables.specs.Call.{Tables, Room, termRecord, propositionRecord, questionRecord, tooShort, faultIf, refusal, orDefault, termsOf, propositionsOf, questionsOf}
 
@@ -47,10 +44,6 @@ or-false : (a b : Bool) → (a || b) ≡ false → (a ≡ false) × (b ≡ false
 or-false true b e = (e, cc)
 or-false false b e = (refl, e)
 
-when-some : {A : Type 0} (b : Bool) (a x : A) → when b a ≡ some x → (b ≡ true) × (a ≡ x)
-when-some true a x e = (refl, cc)
-when-some false a x e = (cc, cc)
-
 atPlace-none : (k : ℕ) (o : Option Refusal) (rest : Option Fault) → atPlace k o rest ≡ none → (o ≡ none) × (rest ≡ none)
 atPlace-none k none rest e = (refl, e)
 atPlace-none k (some r) rest e = (cc, cc)
@@ -63,70 +56,6 @@ firstFault-none f k (suc n) e zero h = let s : k + 0 ≡ k = omega arith in rw s
 firstFault-none f k (suc n) e (suc i) h =
     let s : k + suc i ≡ suc k + i = omega arith in
     rw s (firstFault-none f (suc k) n (atPlace-none k (f k) (firstFault f (suc k) n) e .1) i (omega arith))
-
-in-range : (z : ℤ) → offsetInRange z ≡ true → Within offsetLimit z
-unfolding offsetInRange up dn
-in-range (pos n) e = let h = ltb-true n offsetLimit e in record { above = omega arith; below = omega arith }
-in-range (negsuc n) e = let h = ltb-true n offsetLimit e in record { above = omega arith; below = omega arith }
-
--- the record of a dereference
-term-deref : (r : TermRecord) (z : ℤ) (t : ℕ) → termOf r ≡ some (deref z t) → (r .kind ≡ derefKind) × (r .number ≡ t)
-unfolding termOf
-term-deref r z t = first (eqb (r .kind) variableKind) (eqb (r .kind) auxiliaryKind)
-  where
-    first :
-        (a b : Bool) →
-        choose a (when (atomRecord r) (variable (r .number)))
-        (choose b (when (atomRecord r) (auxiliary (r .number)))
-        (when (eqb (r .kind) derefKind && offsetInRange (r .offset)) (deref (r .offset) (r .number))))
-        ≡ some (deref z t) →
-        (r .kind ≡ derefKind) × (r .number ≡ t)
-    first true b e = let s = when-some (atomRecord r) (variable (r .number)) (deref z t) e .1 in (cc, cc)
-    first false true e = let s = when-some (atomRecord r) (auxiliary (r .number)) (deref z t) e .1 in (cc, cc)
-    first false false e =
-        let s = when-some (eqb (r .kind) derefKind && offsetInRange (r .offset)) (deref (r .offset) (r .number)) (deref z t) e in
-        (eqb-true _ _ (and-true (eqb (r .kind) derefKind) _ (s .0) .0), cc)
-
--- a record and the proposition that it stands for agree
-record Agrees (p : PropositionRecord) (x : Proposition) : Type 0 where
-  equal : (t1 : ℕ) (z : ℤ) (t2 : ℕ) → x ≡ equality t1 z t2 → (p .left ≡ t1) × (p .right ≡ t2) × Within offsetLimit z
-  unequal : (t1 : ℕ) (z : ℤ) (t2 : ℕ) → x ≡ disequality t1 z t2 → (p .left ≡ t1) × (p .right ≡ t2)
-  apart : (t1 t2 : ℕ) → x ≡ block-disequality t1 t2 → (p .left ≡ t1) × (p .right ≡ t2)
-
-agrees : (p : PropositionRecord) (x : Proposition) → propositionOf p ≡ some x → Agrees p x
-unfolding propositionOf
-agrees p x = go (eqb (p .kind) equalityKind) (eqb (p .kind) disequalityKind)
-  where
-    go :
-        (a b : Bool) →
-        choose a (when (offsetInRange (p .offset)) (equality (p .left) (p .offset) (p .right)))
-        (choose b (when (offsetInRange (p .offset)) (disequality (p .left) (p .offset) (p .right)))
-        (when (eqb (p .kind) blockDisequalityKind && eqℤ (p .offset) (pos 0)) (block-disequality (p .left) (p .right))))
-        ≡ some x →
-        Agrees p x
-    go true b e =
-        let s = when-some (offsetInRange (p .offset)) (equality (p .left) (p .offset) (p .right)) x e in
-        let w = in-range (p .offset) (s .0) in
-        let is = s .1 in
-        record {
-          equal = λ t1 z t2 f. let o : p .offset ≡ z = cc in (cc, cc, rw o at w);
-          unequal = λ t1 z t2 f. (cc, cc);
-          apart = λ t1 t2 f. (cc, cc);
-        }
-    go false true e =
-        let is = when-some (offsetInRange (p .offset)) (disequality (p .left) (p .offset) (p .right)) x e .1 in
-        record {
-          equal = λ t1 z t2 f. let n : _≡_ {A = ℕ} 0 1 = cc in absurd (omega arith);
-          unequal = λ t1 z t2 f. (cc, cc);
-          apart = λ t1 t2 f. (cc, cc);
-        }
-    go false false e =
-        let is = when-some (eqb (p .kind) blockDisequalityKind && eqℤ (p .offset) (pos 0)) (block-disequality (p .left) (p .right)) x e .1 in
-        record {
-          equal = λ t1 z t2 f. let n : _≡_ {A = ℕ} 0 1 = cc in absurd (omega arith);
-          unequal = λ t1 z t2 f. (cc, cc);
-          apart = λ t1 t2 f. (cc, cc);
-        }
 
 default-some : {A : Type 0} (d : A) (o : Option A) (x a : A) → o ≡ some a → x ≡ orDefault d o → o ≡ some x
 default-some d none x a e f = cc
@@ -282,37 +211,86 @@ length-terms T = length-tabulate (λ k. orDefault (auxiliary 0) (termOf (termRec
 
 module _ (T : Tables) (good : Good T) where
   -- a term of the set, and the record that stands for it
-  term-at : (k : ℕ) {x : Term} → Item (termsOf T) k x → (k < T .terms) × (termOf (termRecord T k) ≡ some x)
+  pub term-at : (k : ℕ) {x : Term} → Item (termsOf T) k x → (k < T .terms) × StandsFor (termRecord T k) x
   unfolding termsOf termFault
   term-at k {x} i =
       let h : k < T .terms = omega (arith, item-below (termsOf T) k i, length-terms T) in
       let well = malformed-none (termOf (termRecord T k)) (orElse-none _ _ (good .terms k h) .0) in (
         h,
-        default-some (auxiliary 0) (termOf (termRecord T k)) x (well .0) (well .1)
-            (sym (item-getD (termsOf T) k (auxiliary 0) i) ∙ from-zero (λ j. orDefault (auxiliary 0) (termOf (termRecord T j))) (T .terms) k (auxiliary 0) h),
+        stands-for (termRecord T k) x
+            (default-some (auxiliary 0) (termOf (termRecord T k)) x (well .0) (well .1)
+            (sym (item-getD (termsOf T) k (auxiliary 0) i) ∙ from-zero (λ j. orDefault (auxiliary 0) (termOf (termRecord T j))) (T .terms) k (auxiliary 0) h)),
       )
 
-  proposition-at : (k : ℕ) {x : Proposition} → Item (propositionsOf T) k x → (k < T .propositions) × Agrees (propositionRecord T k) x
+  -- and back
+  pub at-term : (k : ℕ) → k < T .terms → (x : Term) × Item (termsOf T) k x × StandsFor (termRecord T k) x
+  at-term k h =
+      let x = getD (termsOf T) k (auxiliary 0) in
+      let i = getD-item (termsOf T) k (auxiliary 0) (omega (arith, length-terms T)) in
+      (x, i, term-at k i .1)
+
+  pub deref-item : (k : ℕ) → k < T .terms → termRecord T k .kind ≡ derefKind → Item (termsOf T) k (deref (termRecord T k .offset) (termRecord T k .number))
+  deref-item k h e =
+      let r = at-term k h in
+      rw (r .2 .offset, r .2 .number) (r .1 ∙ ap some (deref-by-kind (r .0) (sym (r .2 .kind) ∙ e)))
+
+  pub variable-item : (k : ℕ) → k < T .terms → termRecord T k .kind ≡ variableKind → Item (termsOf T) k (variable (termRecord T k .number))
+  variable-item k h e =
+      let r = at-term k h in
+      rw (r .2 .number) (r .1 ∙ ap some (variable-by-kind (r .0) (sym (r .2 .kind) ∙ e)))
+
+  pub length-propositions : length (propositionsOf T) ≡ T .propositions
+  unfolding propositionsOf
+  length-propositions = length-tabulate (λ k. orDefault (block-disequality 0 0) (propositionOf (propositionRecord T k))) 0 (T .propositions)
+
+  pub proposition-at : (k : ℕ) {x : Proposition} → Item (propositionsOf T) k x → (k < T .propositions) × Asserts (propositionRecord T k) x
   unfolding propositionsOf propositionFault
   proposition-at k {x} i =
-      let f : ℕ → Proposition = λ j. orDefault (block-disequality 0 0) (propositionOf (propositionRecord T j)) in
-      let h : k < T .propositions = omega (arith, item-below (propositionsOf T) k i, length-tabulate f 0 (T .propositions)) in
+      let h : k < T .propositions = omega (arith, item-below (propositionsOf T) k i, length-propositions) in
       let well = malformed-none (propositionOf (propositionRecord T k)) (orElse-none _ _ (good .propositions k h) .0) in (
         h,
-        agrees (propositionRecord T k) x
+        asserts (propositionRecord T k) x
             (default-some (block-disequality 0 0) (propositionOf (propositionRecord T k)) x (well .0) (well .1)
-            (sym (item-getD (propositionsOf T) k (block-disequality 0 0) i) ∙ from-zero f (T .propositions) k (block-disequality 0 0) h)),
+            (sym (item-getD (propositionsOf T) k (block-disequality 0 0) i) ∙ from-zero (λ j. orDefault (block-disequality 0 0) (propositionOf (propositionRecord T j))) (T .propositions) k (block-disequality 0 0) h)),
       )
 
-  names-listed : (k : ℕ) → k < T .propositions → (propositionRecord T k .left < T .terms) × (propositionRecord T k .right < T .terms)
+  pub at-proposition : (k : ℕ) → k < T .propositions → (x : Proposition) × Item (propositionsOf T) k x × Asserts (propositionRecord T k) x
+  at-proposition k h =
+      let x = getD (propositionsOf T) k (block-disequality 0 0) in
+      let i = getD-item (propositionsOf T) k (block-disequality 0 0) (omega (arith, length-propositions)) in
+      (x, i, proposition-at k i .1)
+
+  pub equality-item : (k : ℕ) → k < T .propositions → propositionRecord T k .kind ≡ equalityKind → Item (propositionsOf T) k (equality (propositionRecord T k .left) (propositionRecord T k .offset) (propositionRecord T k .right))
+  equality-item k h e =
+      let r = at-proposition k h in
+      rw (r .2 .left, r .2 .offset, r .2 .right) (r .1 ∙ ap some (equality-by-kind (r .0) (sym (r .2 .kind) ∙ e)))
+
+  pub disequality-item : (k : ℕ) → k < T .propositions → propositionRecord T k .kind ≡ disequalityKind → Item (propositionsOf T) k (disequality (propositionRecord T k .left) (propositionRecord T k .offset) (propositionRecord T k .right))
+  disequality-item k h e =
+      let r = at-proposition k h in
+      rw (r .2 .left, r .2 .offset, r .2 .right) (r .1 ∙ ap some (disequality-by-kind (r .0) (sym (r .2 .kind) ∙ e)))
+
+  pub block-item : (k : ℕ) → k < T .propositions → propositionRecord T k .kind ≡ blockDisequalityKind → Item (propositionsOf T) k (block-disequality (propositionRecord T k .left) (propositionRecord T k .right))
+  block-item k h e =
+      let r = at-proposition k h in
+      rw (r .2 .left, r .2 .right) (r .1 ∙ ap some (block-by-kind (r .0) (sym (r .2 .kind) ∙ e)))
+
+  -- its sides are listed
+  pub sides-listed : (k : ℕ) → k < T .propositions → (propositionRecord T k .left < T .terms) × (propositionRecord T k .right < T .terms)
   unfolding propositionFault propositionNameFault
-  names-listed k h =
+  sides-listed k h =
       let p = propositionRecord T k in
       let f = orElse-none (malformed (propositionOf p)) (propositionNameFault (T .terms) p) (good .propositions k h) .1 in
       let b = or-false (leb (T .terms) (p .left)) (leb (T .terms) (p .right)) (refuseIf-none _ PropositionTermNotListed f) in
       (leb-false (T .terms) (p .left) (b .0), leb-false (T .terms) (p .right) (b .1))
 
-  inner-earlier : (k : ℕ) → k < T .terms → termRecord T k .kind ≡ derefKind → termRecord T k .number < k
+  names-listed : (k : ℕ) {x : Proposition} → Item (propositionsOf T) k x → (leftOf x < length (termsOf T)) × (rightOf x < length (termsOf T))
+  names-listed k i =
+      let r = proposition-at k i in
+      let n = sides-listed k (r .0) in
+      (omega (arith, length-terms T, n .0, r .1 .left), omega (arith, length-terms T, n .1, r .1 .right))
+
+  pub inner-earlier : (k : ℕ) → k < T .terms → termRecord T k .kind ≡ derefKind → termRecord T k .number < k
   unfolding termFault termNameFault
   inner-earlier k h d =
       let r = termRecord T k in
@@ -324,35 +302,35 @@ module _ (T : Tables) (good : Good T) where
       let m : leb (length earlier) (r .number) ≡ false = rw (eq-eqb (r .kind) derefKind d) at n in
       omega (arith, leb-false (length earlier) (r .number) m, length-tabulate (termRecord T) 0 k)
 
+  -- no atom is listed twice
+  pub atoms-once : (k j : ℕ) → k < T .terms → j < k → sameAtom (termRecord T k) (termRecord T j) ≡ false
+  unfolding termFault termNameFault
+  atoms-once k j h l =
+      let r = termRecord T k in
+      let earlier = tabulate (termRecord T) 0 k in
+      let late = eqb (r .kind) derefKind && leb (length earlier) (r .number) in
+      let twice = any (sameAtom r) earlier in
+      let f = orElse-none (malformed (termOf r)) (termNameFault earlier r) (good .terms k h) .1 in
+      let n : twice ≡ false = refuseIf-none twice AtomListedTwice (orElse-none (refuseIf late InnerNotListed) (refuseIf twice AtomListedTwice) f .1) in
+      let at = getD-item earlier j r (omega (arith, length-tabulate (termRecord T) 0 k)) in
+      any-false (sameAtom r) earlier n (termRecord T j) (j, rw (from-zero (termRecord T) k j r l) at at)
+
   pub accepted-well-formed : WellFormed (termsOf T) (listed (termsOf T) (propositionsOf T))
   accepted-well-formed = record {
     earlier = λ {d} {t} {z} i.
         let r = term-at d i in
-        let k = term-deref (termRecord T d) z t (r .1) in
-        omega (arith, k .1, inner-earlier d (r .0) (k .0));
-    equal-listed = λ {t1} {t2} {z} i.
-        let r = proposition-at (i .0) (i .1) in
-        let s = r .1 .equal t1 z t2 refl in
-        let n = names-listed (i .0) (r .0) in
-        (omega (arith, length-terms T, n .0, s .0), omega (arith, length-terms T, n .1, s .1));
-    unequal-listed = λ {t1} {t2} {z} i.
-        let r = proposition-at (i .0) (i .1) in
-        let s = r .1 .unequal t1 z t2 refl in
-        let n = names-listed (i .0) (r .0) in
-        (omega (arith, length-terms T, n .0, s .0), omega (arith, length-terms T, n .1, s .1));
+        omega (arith, r .1 .number, inner-earlier d (r .0) (r .1 .kind));
+    equal-listed = λ i. names-listed (i .0) (i .1);
+    unequal-listed = λ i. names-listed (i .0) (i .1);
     apart-listed = λ {t1} {t2} g. ⊎-elim
-        (λ (i : In (block-disequality t1 t2) (propositionsOf T)).
-        let r = proposition-at (i .0) (i .1) in
-        let s = r .1 .apart t1 t2 refl in
-        let n = names-listed (i .0) (r .0) in
-        (omega (arith, length-terms T, n .0, s .0), omega (arith, length-terms T, n .1, s .1)))
+        (λ (i : In (block-disequality t1 t2) (propositionsOf T)). names-listed (i .0) (i .1))
         (λ (v : DistinctVariables (termsOf T) t1 t2). (item-below (termsOf T) t1 (v .2), item-below (termsOf T) t2 (v .3)))
         g;
   }
 
   -- its offsets are within the limit
   pub accepted-bounded : Bounded offsetLimit (listed (termsOf T) (propositionsOf T))
-  accepted-bounded t1 t2 z i = proposition-at (i .0) (i .1) .1 .equal t1 z t2 refl .2
+  accepted-bounded t1 t2 z i = let r = proposition-at (i .0) (i .1) .1 in rw (r .offset) at (r .within)
 
 -- and the questions name listed terms
 pub accepted-questions : (T : Tables) → GoodQuestions T → (k : ℕ) {q : Comparison} → Item (questionsOf T) k q → (q .left < length (termsOf T)) × (q .right < length (termsOf T))

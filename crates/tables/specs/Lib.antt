@@ -3,4 +3,5 @@ pub mod Limits
 pub mod Records
 pub mod Refusals
 pub mod Call
+pub mod Stands
 pub mod Accepted
