@@ -5,7 +5,6 @@ use mathlib.Core.Logic.{_≢_, _⊎_, inl, inr, ⊎-elim}
 use mathlib.Core.Bool.{Bool, true, false}
 use mathlib.Core.List.{List, [], _∷_, map}
 use native.Mathlib.Omega.{arith}
-use native.Mathlib.Nat.{mul-le-mul-right}
 use lib.Dec.{eqb, ltb}
 use lib.IntN.{ℤ, pos, negℤ, _+ℤ_, _-ℤ_}
 use lib.ListN.{length, getD, length-map}
@@ -13,11 +12,10 @@ use borrow.Author.Tests.{eq-eqb, ne-eqb, ltb-true, ltb-false}
 use Rattle.lists.specs.Items.{item-map, getD-item}
 use Rattle.lists.specs.Search.{choose}
 use Rattle.rules.specs.Terms.{Term, Given, WellFormed}
-use Rattle.rules.specs.Rules.{E1}
 use Rattle.rules.specs.Assignments.{Placement}
 use Rattle.labels.specs.Relabel.{Relabelled, same-or-not, keeps-block, joins-block}
-use Rattle.labels.specs.Spread.{Spread, members, members-positive}
-use Rattle.labels.specs.Steps.{State, Step, reversed, Bounded, joined-state, joined-spread}
+use Rattle.labels.specs.Spread.{Spread}
+use Rattle.labels.specs.Steps.{State, Step, reversed, Bounded, joined-state, joined-spread, Fresh, fresh-state, fresh-spread}
 
 -- a term's representative and its offset from it
 pub record Label : Type 0 where
@@ -158,22 +156,14 @@ module _ (ts : List Term) (G : Given) (wf : WellFormed ts G) where
   unfolding placed
   own-position t h = ap (λ (x : Label). x .off) (own-at 0 (length ts) t h)
 
+  own-fresh : Fresh (length ts) (placed (own 0 (length ts)))
+  own-fresh = record { block = own-block; position = own-position }
+
   pub own-state : State ts G (placed (own 0 (length ts)))
-  own-state = record {
-    sound = λ t h. rw (own-block t h, own-position t h) (E1 h);
-    lowest = λ t h. omega (arith, own-block t h);
-    rooted = record {
-      below = λ {t} h. rw (own-block t h) h;
-      own = λ {t} h. rw (own-block t h) (own-block t h);
-      zero-offset = λ {t} h. rw (own-block t h) (own-position t h);
-    };
-  }
+  own-state = fresh-state ts G (placed (own 0 (length ts))) own-fresh
 
   pub own-spread : (W : ℕ) → Spread W (length ts) (placed (own 0 (length ts)))
-  own-spread W t u ht hu e =
-      let P = placed (own 0 (length ts)) in
-      let same : t ≡ u = sym (own-block t ht) ∙ e ∙ own-block u hu in
-      rw same (omega (arith, mul-le-mul-right W (members-positive (length ts) P u hu)))
+  own-spread W = fresh-spread W (length ts) (placed (own 0 (length ts))) own-fresh
 
 -- the sum of the representatives' numbers, which a join of two classes lowers
 unfoldable pub total : List Label → ℕ

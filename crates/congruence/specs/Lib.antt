@@ -1,2 +1,4 @@
--- What the functions of this crate leave.
+-- What the functions of this crate need and leave.
 pub mod Relabelling
+pub mod Joining
+pub mod Live

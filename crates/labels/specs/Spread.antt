@@ -46,7 +46,7 @@ members-positive (suc n) P t h =
     (same-or-not t n)
 
 module _ {P Q : Placement} {from to : ℕ} {d : ℤ} where
-  fewer : (n : ℕ) → Relabelled (suc n) P Q from d to → Relabelled n P Q from d to
+  pub fewer : (n : ℕ) → Relabelled (suc n) P Q from d to → Relabelled n P Q from d to
   fewer n R = record {
     moved-block = λ {t} h e. R .moved-block (omega arith) e;
     moved-position = λ {t} h e. R .moved-position (omega arith) e;

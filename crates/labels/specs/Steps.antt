@@ -1,20 +1,21 @@
 -- The steps of a closure: a join by a given equality, or of two dereferences of one address. Each keeps a labelling sound, with
 -- lowest representatives, and within the bound on its distances.
 use Prim.Native.Nat.{ℕ, _+_, _*_, _<_, _≤_}
-use mathlib.Core.Path.{_≡_, refl}
+use mathlib.Core.Path.{_≡_, refl, sym, _∙_}
 use mathlib.Core.Logic.{_≢_}
 use mathlib.Core.List.{List}
 use native.Mathlib.Omega.{arith}
+use native.Mathlib.Nat.{mul-le-mul-right}
 use lib.IntN.{ℤ, pos, negℤ, _+ℤ_, _-ℤ_}
 use lib.ListN.{length}
 use Rattle.integers.specs.Linear.{linear, value, ‹_›, #_, ⊝_}
 use Rattle.lists.specs.Items.{Item, item-below}
 use Rattle.rules.specs.Terms.{Term, deref, Given, WellFormed}
-use Rattle.rules.specs.Rules.{Equal, E0, E2}
+use Rattle.rules.specs.Rules.{Equal, E0, E1, E2}
 use Rattle.rules.specs.Assignments.{Placement}
 use Rattle.labels.specs.Labelling.{Sound, Lowest, deref-equal}
 use Rattle.labels.specs.Relabel.{Relabelled, Rooted, keeps-lowest, keeps-rooted, keeps-sound, distance}
-use Rattle.labels.specs.Spread.{Within, Spread, keeps-spread}
+use Rattle.labels.specs.Spread.{Within, Spread, members-positive, keeps-spread}
 
 pub record State (ts : List Term) (G : Given) (P : Placement) : Type 0 where
   pub sound : Sound ts G P
@@ -82,6 +83,25 @@ module _ (ts : List Term) (G : Given) (wf : WellFormed ts G) (P : Placement) whe
       pub joined-spread : (W : ℕ) → Bounded W G → Spread W (length ts) P → Spread W (length ts) Q
       joined-spread W B =
           keeps-spread W (length ts) P Q (P .block a) (z +ℤ P .position b -ℤ P .position a) (P .block b) R other a b z (step-listed s .0) (step-listed s .1) refl refl refl (step-within W B s)
+
+-- each term alone in its class
+pub record Fresh (n : ℕ) (P : Placement) : Type 0 where
+  pub block : (t : ℕ) → t < n → P .block t ≡ t
+  pub position : (t : ℕ) → t < n → P .position t ≡ pos 0
+
+pub fresh-state : (ts : List Term) (G : Given) (P : Placement) → Fresh (length ts) P → State ts G P
+fresh-state ts G P F = record {
+    sound = λ t h. rw (F .block t h, F .position t h) (E1 h);
+    lowest = λ t h. omega (arith, F .block t h);
+    rooted = record {
+        below = λ {t} h. rw (F .block t h) h;
+        own = λ {t} h. rw (F .block t h) (F .block t h);
+        zero-offset = λ {t} h. rw (F .block t h) (F .position t h) } }
+
+pub fresh-spread : (W n : ℕ) (P : Placement) → Fresh n P → Spread W n P
+fresh-spread W n P F t u ht hu e =
+    let same : t ≡ u = sym (F .block t ht) ∙ e ∙ F .block u hu in
+    rw same (omega (arith, mul-le-mul-right W (members-positive n P u hu)))
 
 -- no step joins two classes any more
 pub record Closed (ts : List Term) (G : Given) (P : Placement) : Type 0 where

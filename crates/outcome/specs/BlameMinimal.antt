@@ -56,7 +56,7 @@ module _ (ts : List Term) (ps : List Proposition) (wf : WellFormed ts (listed ts
       more : {p : Proposition} → In p (select a ps) → In p (select b ps)
       more i = let r = select-in a ps i in in-select b ps (r .0) (r .1) (h (r .0) (r .2))
 
-  some-of : (a : List Bool) → Sub (listed ts (select a ps)) (listed ts ps)
+  pub some-of : (a : List Bool) → Sub (listed ts (select a ps)) (listed ts ps)
   some-of a = record { equal = λ i. of i; unequal = λ i. of i; apart = λ g. ⊎-elim (λ i. inl (of i)) inr g }
     where
       of : {p : Proposition} → In p (select a ps) → In p ps

@@ -1,0 +1,2 @@
+-- When sums of bounded offsets fit 64 bits.
+pub mod Fits

@@ -1,0 +1,42 @@
+// Offsets: 32-bit in the tables, summed, negated and compared in 64 bits, where no sum within the limits wraps.
+// Each function is exact on whole numbers. They are public for the sister crates.
+
+ghost use mathlib.Core.Path.{_≡_};
+ghost use lib.IntN.{ℤ, _+ℤ_, _-ℤ_, negℤ};
+ghost use mir.Val.{SFits};
+ghost use mir.Syntax.{w64};
+ghost use Rattle.integers.specs.Compare.{eqℤ};
+
+// A table's offset in 64 bits.
+pub fn widened(z: i32) -> i64
+    ensures { λ r. ⌜ r ≡ z ⌝ }
+{
+    z as i64
+}
+
+pub fn sum(a: i64, b: i64) -> i64
+    requires { ⌜ SFits w64 (a +ℤ b) ⌝ }
+    ensures { λ r. ⌜ r ≡ a +ℤ b ⌝ }
+{
+    a + b
+}
+
+pub fn difference(a: i64, b: i64) -> i64
+    requires { ⌜ SFits w64 (a -ℤ b) ⌝ }
+    ensures { λ r. ⌜ r ≡ a -ℤ b ⌝ }
+{
+    a - b
+}
+
+pub fn negated(a: i64) -> i64
+    requires { ⌜ SFits w64 (negℤ a) ⌝ }
+    ensures { λ r. ⌜ r ≡ negℤ a ⌝ }
+{
+    -a
+}
+
+pub fn is_same(a: i64, b: i64) -> bool
+    ensures { λ r. ⌜ r ≡ eqℤ a b ⌝ }
+{
+    a == b
+}
