@@ -59,11 +59,11 @@ module _ (P Q : Placement) (from : ℕ) (d : ℤ) (to : ℕ) (h : to < from) whe
       ⊎-elim
       (λ (s : a ≡ n). let f : P .block n ≡ from = rw s at e in omega (arith, weight-at-most n (fewer n R), R .moved-block (omega arith) f))
       (λ (m : a ≢ n).
-          let ih = weight-less n (fewer n R) a (omega arith) e in
-          ⊎-elim
-          (λ (f : P .block n ≡ from). omega (arith, ih, R .moved-block (omega arith) f))
-          (λ (k : P .block n ≢ from). omega (arith, ih, R .kept-block (omega arith) k))
-          (same-or-not (P .block n) from))
+      let ih = weight-less n (fewer n R) a (omega arith) e in
+      ⊎-elim
+      (λ (f : P .block n ≡ from). omega (arith, ih, R .moved-block (omega arith) f))
+      (λ (k : P .block n ≢ from). omega (arith, ih, R .kept-block (omega arith) k))
+      (same-or-not (P .block n) from))
       (same-or-not a n)
 
 module _ (n : ℕ) (P Q : Placement) (a : ℕ) (z : ℤ) (b : ℕ) (ha : a < n) (hb : b < n) where
@@ -82,14 +82,16 @@ module _ (n : ℕ) (P Q : Placement) (a : ℕ) (z : ℤ) (b : ℕ) (ha : a < n) 
       let pa = P .position a in
       let pb = P .position b in
       record {
-          same-block = joins-block n P Q _ _ _ R ha hb (λ e. omega arith) refl refl;
-          at-offset = omega (linear, R .moved-position ha refl, R .kept-position hb (λ e. omega arith), value (‹ pa › ⊕ (‹ z › ⊕ ‹ pb › ⊖ ‹ pa ›)), value (‹ z › ⊕ ‹ Q .position b ›)) }
+        same-block = joins-block n P Q _ _ _ R ha hb (λ e. omega arith) refl refl;
+        at-offset = omega (linear, R .moved-position ha refl, R .kept-position hb (λ e. omega arith), value (‹ pa › ⊕ (‹ z › ⊕ ‹ pb › ⊖ ‹ pa ›)), value (‹ z › ⊕ ‹ Q .position b ›));
+      }
   joined-holds (rise h R) =
       let pa = P .position a in
       let pb = P .position b in
       record {
-          same-block = sym (joins-block n P Q _ _ _ R hb ha (λ e. omega arith) refl refl);
-          at-offset = omega (linear, R .moved-position hb refl, R .kept-position ha (λ e. omega arith), value (‹ pb › ⊕ (⊝ ‹ z › ⊕ ‹ pa › ⊖ ‹ pb ›)), value (‹ z › ⊕ ‹ Q .position b ›)) }
+        same-block = sym (joins-block n P Q _ _ _ R hb ha (λ e. omega arith) refl refl);
+        at-offset = omega (linear, R .moved-position hb refl, R .kept-position ha (λ e. omega arith), value (‹ pb › ⊕ (⊝ ‹ z › ⊕ ‹ pa › ⊖ ‹ pb ›)), value (‹ z › ⊕ ‹ Q .position b ›));
+      }
 
 -- the distance of a join, and a label moved by it, fit
 pub distance-within : {n : ℕ} {reps : List ℕ} {offs : List ℤ} → Columns n reps offs → (a : ℕ) (z : ℤ) (b : ℕ) → a < n → b < n → Within far z → Within (2 ^ 43) (z +ℤ getD offs b (pos 0) -ℤ getD offs a (pos 0))

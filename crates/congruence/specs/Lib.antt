@@ -2,3 +2,4 @@
 pub mod Relabelling
 pub mod Joining
 pub mod Live
+pub mod Addresses

@@ -57,36 +57,39 @@ module _ (T : Tables) (marks : List ℕ) (good : Good T) where
 
   pub fresh-live : (reps : List ℕ) (offs : List ℤ) → T .terms ≤ length reps → T .terms ≤ length offs → Fresh (T .terms) (view reps offs) → Live T marks reps offs
   fresh-live reps offs r o F = record {
-      reps-long = r;
-      offs-long = o;
-      state = fresh-state (termsOf T) (kept T marks) (view reps offs) (rw (length-terms T) F);
-      spread = fresh-spread offsetLimit (T .terms) (view reps offs) F }
+    reps-long = r;
+    offs-long = o;
+    state = fresh-state (termsOf T) (kept T marks) (view reps offs) (rw (length-terms T) F);
+    spread = fresh-spread offsetLimit (T .terms) (view reps offs) F;
+  }
 
   -- a term's offset is not far
   pub live-columns : {reps : List ℕ} {offs : List ℤ} → Live T marks reps offs → Columns (T .terms) reps offs
   live-columns {reps} {offs} L = record {
-      reps-long = L .reps-long;
-      offs-long = L .offs-long;
-      near = λ t h.
-          let P = view reps offs in
-          let root = L .state .rooted in
-          let ht = rw (← (length-terms T)) at h in
-          let below : P .block t < T .terms = omega (arith, length-terms T, root .below ht) in
-          let s = mul-le-mul-right offsetLimit (members-at-most (T .terms) P (P .block t)) in
-          let m = mul-le-mul-right offsetLimit (good .few-terms) in
-          let a = L .spread t (P .block t) h below (sym (root .own ht)) in
-          let b = L .spread (P .block t) t below h (root .own ht) in
-          let c = rw (root .own ht) at b in
-          let z = root .zero-offset ht in
-          record { above = omega (linear, a, s, m, z, value (# 0)); below = omega (linear, c, s, m, z, value (# 0)) } }
+    reps-long = L .reps-long;
+    offs-long = L .offs-long;
+    near = λ t h.
+        let P = view reps offs in
+        let root = L .state .rooted in
+        let ht = rw (← (length-terms T)) at h in
+        let below : P .block t < T .terms = omega (arith, length-terms T, root .below ht) in
+        let s = mul-le-mul-right offsetLimit (members-at-most (T .terms) P (P .block t)) in
+        let m = mul-le-mul-right offsetLimit (good .few-terms) in
+        let a = L .spread t (P .block t) h below (sym (root .own ht)) in
+        let b = L .spread (P .block t) t below h (root .own ht) in
+        let c = rw (root .own ht) at b in
+        let z = root .zero-offset ht in
+        record { above = omega (linear, a, s, m, z, value (# 0)); below = omega (linear, c, s, m, z, value (# 0)) };
+  }
 
   -- a step that joins two classes keeps the labels so
   pub joined-live : {reps0 : List ℕ} {offs0 : List ℤ} (reps : List ℕ) (offs : List ℤ) {a b : ℕ} {z : ℤ} → length reps ≡ length reps0 → length offs ≡ length offs0 → Step (termsOf T) (kept T marks) (view reps0 offs0) a z b → Joined (T .terms) (view reps0 offs0) (view reps offs) a z b → Live T marks reps0 offs0 → Live T marks reps offs
   joined-live {reps0} {offs0} reps offs {a} {b} {z} lr lo s J L = record {
-      reps-long = omega (arith, L .reps-long);
-      offs-long = omega (arith, L .offs-long);
-      state = state J;
-      spread = spread J }
+    reps-long = omega (arith, L .reps-long);
+    offs-long = omega (arith, L .offs-long);
+    state = state J;
+    spread = spread J;
+  }
     where
       P : Placement
       P = view reps0 offs0
@@ -110,9 +113,9 @@ pub data Equated (n : ℕ) (reps0 : List ℕ) (offs0 : List ℤ) (reps : List �
   joined : Joined n (view reps0 offs0) (view reps offs) a z b → Equated n reps0 offs0 reps offs a z b true
   held : reps ≡ reps0 → offs ≡ offs0 → Holds (view reps0 offs0) a z b → Equated n reps0 offs0 reps offs a z b true
   clashed :
-    getD reps0 a 0 ≡ getD reps0 b 0 →
-    getD offs0 a (pos 0) ≢ z +ℤ getD offs0 b (pos 0) →
-    Equated n reps0 offs0 reps offs a z b false
+      getD reps0 a 0 ≡ getD reps0 b 0 →
+      getD offs0 a (pos 0) ≢ z +ℤ getD offs0 b (pos 0) →
+      Equated n reps0 offs0 reps offs a z b false
 
 -- the kept equalities below p hold
 abbrev pub EqualBelow : Tables → List ℕ → ℕ → Placement → Type 0
@@ -134,6 +137,6 @@ equated-within {reps = reps} {offs = offs} a z b s true e = held refl refl (hold
 equated-within {reps = reps} {offs = offs} a z b s false e =
     clashed s
     (λ k.
-        let t = true-holds (view reps offs) (comparison a z b) (record { same-block = s; at-offset = k }) in
-        let x : _≡_ {A = ℕ} 0 1 = cc in
-        omega arith)
+    let t = true-holds (view reps offs) (comparison a z b) (record { same-block = s; at-offset = k }) in
+    let x : _≡_ {A = ℕ} 0 1 = cc in
+    omega arith)

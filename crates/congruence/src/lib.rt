@@ -6,7 +6,6 @@ use offsets::negated;
 use offsets::sum;
 use offsets::widened;
 use types::TermNumber;
-
 ghost use mathlib.Core.Path.{_≡_};
 ghost use mathlib.Core.Logic.{_≢_};
 ghost use Prim.Native.Nat.{ℕ, _+_, _^_, _≤_, _<_};
@@ -20,6 +19,19 @@ ghost use Rattle.closure.specs.Facts.{comparison};
 ghost use Rattle.closure.specs.Verdict.{holds as labelsHold};
 ghost use Rattle.congruence.specs.Joining.{far, Columns, Linked, Joined};
 ghost use Rattle.congruence.specs.Live.{Equated};
+ghost use Rattle.congruence.specs.Addresses.{TermColumns, Before, Looked};
+
+// What a search finds: a term, or none.
+pub enum Found {
+    At(usize),
+    Nothing,
+}
+
+// What the search for two dereferences of one address finds: a pair with different labels, or none.
+pub enum Look {
+    Pair(usize, usize),
+    Closed,
+}
 
 // Moves the class of `from` to that of `to`, where `from` is d + `to`.
 fn relabel(reps: &mut [u32], offs: &mut [i64], n: usize, from: u32, d: i64, to: u32)
@@ -89,7 +101,14 @@ pub fn holds(reps: &[u32], offs: &[i64], n: usize, a: TermNumber, z: i64, b: Ter
 }
 
 // Joins a = z + b, if they are in two classes; else tells whether the labels agree with it.
-fn equate(reps: &mut [u32], offs: &mut [i64], n: usize, a: TermNumber, z: i64, b: TermNumber) -> bool
+fn equate(
+    reps: &mut [u32],
+    offs: &mut [i64],
+    n: usize,
+    a: TermNumber,
+    z: i64,
+    b: TermNumber,
+) -> bool
     requires { ⌜ Columns n (now reps) (now offs) × ((a .0 < n) × ((b .0 < n) × Within far z)) ⌝ }
     ensures { λ r. ⌜ Equated n (now (reps .entry)) (now (offs .entry)) (now (reps .exit)) (now (offs .exit)) (a .0) z (b .0) r ⌝ }
 {
@@ -100,4 +119,87 @@ fn equate(reps: &mut [u32], offs: &mut [i64], n: usize, a: TermNumber, z: i64, b
     }
     join(reps, offs, n, a, z, b);
     true
+}
+
+// The address that the dereference x reads, as an offset from the representative of the term inside.
+fn address(numbers: &[u32], zs: &[i32], offs: &[i64], x: TermNumber) -> i64
+    requires { ⌜ (x .0 < length (now numbers)) × ((x .0 < length (now zs)) × (getD (now numbers) (x .0) 0 < length (now offs))) ⌝ }
+    requires { ⌜ Within far (getD (now offs) (getD (now numbers) (x .0) 0) (pos 0)) ⌝ }
+    ensures { λ r. ⌜ r ≡ getD (now (zs .entry)) (x .0) (pos 0) +ℤ getD (now (offs .entry)) (getD (now (numbers .entry)) (x .0) 0) (pos 0) ⌝ }
+{
+    let i = x.0;
+    let inner = numbers[i] as usize;
+    sum(widened(zs[i]), offs[inner])
+}
+
+// The first term before x that is a dereference of x's address and has another label. The address of x is `at` in the class of `rep`.
+fn congruent_before(
+    kinds: &[u8],
+    numbers: &[u32],
+    zs: &[i32],
+    reps: &[u32],
+    offs: &[i64],
+    n: usize,
+    x: TermNumber,
+    rep: u32,
+    at: i64,
+) -> Found
+    requires { ⌜ TermColumns n (now kinds) (now numbers) (now zs) × (Columns n (now reps) (now offs) × ((x .0 < n) × (getD (now kinds) (x .0) 0 ≡ 3))) ⌝ }
+    requires { ⌜ (rep ≡ getD (now reps) (getD (now numbers) (x .0) 0) 0) × (at ≡ getD (now zs) (x .0) (pos 0) +ℤ getD (now offs) (getD (now numbers) (x .0) 0) (pos 0)) ⌝ }
+    ensures { λ r. ⌜ Before (now (kinds .entry)) (now (numbers .entry)) (now (zs .entry)) (view (now (reps .entry)) (now (offs .entry))) (x .0) r ⌝ }
+{
+    let end = x.0;
+    for y in 0..end {
+        if kinds[y] != 3 {
+            continue;
+        }
+        let inner = numbers[y] as usize;
+        if reps[inner] != rep {
+            continue;
+        }
+        if !is_same(at, address(numbers, zs, offs, TermNumber(y))) {
+            continue;
+        }
+        if holds(reps, offs, n, x, 0, TermNumber(y)) {
+            continue;
+        }
+        return Found::At(y);
+    }
+    Found::Nothing
+}
+
+// The first two dereferences of one address that have different labels.
+fn unequal_pair(
+    kinds: &[u8],
+    numbers: &[u32],
+    zs: &[i32],
+    reps: &[u32],
+    offs: &[i64],
+    n: usize,
+) -> Look
+    requires { ⌜ TermColumns n (now kinds) (now numbers) (now zs) × Columns n (now reps) (now offs) ⌝ }
+    ensures { λ r. ⌜ Looked n (now (kinds .entry)) (now (numbers .entry)) (now (zs .entry)) (view (now (reps .entry)) (now (offs .entry))) r ⌝ }
+{
+    for x in 0..n {
+        if kinds[x] != 3 {
+            continue;
+        }
+        let inner = numbers[x] as usize;
+        let at = address(numbers, zs, offs, TermNumber(x));
+        let found = congruent_before(
+            kinds,
+            numbers,
+            zs,
+            reps,
+            offs,
+            n,
+            TermNumber(x),
+            reps[inner],
+            at,
+        );
+        if let Found::At(y) = found {
+            return Look::Pair(x, y);
+        }
+    }
+    Look::Closed
 }

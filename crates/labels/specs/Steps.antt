@@ -91,12 +91,14 @@ pub record Fresh (n : ℕ) (P : Placement) : Type 0 where
 
 pub fresh-state : (ts : List Term) (G : Given) (P : Placement) → Fresh (length ts) P → State ts G P
 fresh-state ts G P F = record {
-    sound = λ t h. rw (F .block t h, F .position t h) (E1 h);
-    lowest = λ t h. omega (arith, F .block t h);
-    rooted = record {
-        below = λ {t} h. rw (F .block t h) h;
-        own = λ {t} h. rw (F .block t h) (F .block t h);
-        zero-offset = λ {t} h. rw (F .block t h) (F .position t h) } }
+  sound = λ t h. rw (F .block t h, F .position t h) (E1 h);
+  lowest = λ t h. omega (arith, F .block t h);
+  rooted = record {
+    below = λ {t} h. rw (F .block t h) h;
+    own = λ {t} h. rw (F .block t h) (F .block t h);
+    zero-offset = λ {t} h. rw (F .block t h) (F .position t h);
+  };
+}
 
 pub fresh-spread : (W n : ℕ) (P : Placement) → Fresh n P → Spread W n P
 fresh-spread W n P F t u ht hu e =

@@ -46,10 +46,13 @@ negated-requires c κs =
 link-requires-2 : tie.Need-link-requires-2
 link-requires-2 c κs =
     let s = c .before .before .before .before .before .before .before in
-    let e = rw (toZ-ofZ w64 (s .args .z) (s .fits .z)) at (c .before .before .negated .ensures) in
-    (s .pre .0 .0,
-    (s .pre .0 .1 .1 .0,
-    (s .pre .0 .1 .0, rw (toZ-ofZ w64 (c .before .before .negated .result) (sfits-of (c .before .before .negated .ok)), e) (within-negation (s .pre .0 .1 .1 .1)))))
+    let e = rw (toZ-ofZ w64 (s .args .z) (s .fits .z)) at (c .before .before .negated .ensures) in (
+      s .pre .0 .0,
+      (
+        s .pre .0 .1 .1 .0,
+        (s .pre .0 .1 .0, rw (toZ-ofZ w64 (c .before .before .negated .result) (sfits-of (c .before .before .negated .ok)), e) (within-negation (s .pre .0 .1 .1 .1))),
+      ),
+    )
 
 -- src/lib.rt:48:1
 same-length : tie.Need-same-length

@@ -68,10 +68,11 @@ relabel-requires : tie.Need-relabel-requires
 relabel-requires c κs =
     let s = c .before .before .before .before .before .before .before .before .before in
     let e = rw (toZ-ofZ w64 (s .args .z) (s .fits .z), toZ-ofZ w64 _ (sfits-of (c .before .before .before .before .before .before .before .sum-arg .given))) at (c .before .before .before .before .before .before .sum .ensures) in
-    let f = rw (toZ-ofZ w64 (c .before .before .before .before .before .before .sum .result) (sfits-of (c .before .before .before .before .before .before .sum .ok)), toZ-ofZ w64 _ (sfits-of (c .before .before .before .before .before .difference-arg .given)), e) at (c .before .before .before .before .difference .ensures) in
-    (s .pre .0,
-    rw (toZ-ofZ w64 (c .before .before .before .before .difference .result) (sfits-of (c .before .before .before .before .difference .ok)), f)
-    (distance-within (s .pre .0) (s .args .a .0) (s .args .z) (s .args .b .0) (s .pre .1 .0) (s .pre .1 .1 .0) (s .pre .1 .1 .1)))
+    let f = rw (toZ-ofZ w64 (c .before .before .before .before .before .before .sum .result) (sfits-of (c .before .before .before .before .before .before .sum .ok)), toZ-ofZ w64 _ (sfits-of (c .before .before .before .before .before .difference-arg .given)), e) at (c .before .before .before .before .difference .ensures) in (
+      s .pre .0,
+      rw (toZ-ofZ w64 (c .before .before .before .before .difference .result) (sfits-of (c .before .before .before .before .difference .ok)), f)
+          (distance-within (s .pre .0) (s .args .a .0) (s .args .z) (s .args .b .0) (s .pre .1 .0) (s .pre .1 .1 .0) (s .pre .1 .1 .1)),
+    )
 
 -- src/lib.rt:35:1
 same-length : tie.Need-same-length
