@@ -14,6 +14,7 @@ use Rattle.rules.specs.Assignments.{Placement, Holds}
 use Rattle.labels.specs.Relabel.{same-or-not}
 use Rattle.labels.specs.Spread.{Within}
 use Rattle.rules.specs.Terms.{Comparison}
+use Rattle.closure.specs.Facts.{comparison}
 use Rattle.closure.specs.Verdict.{holds, true-holds}
 use Rattle.tables.specs.Records.{derefKind}
 use Rattle.tables.specs.Call.{Tables, setOf}
@@ -42,6 +43,11 @@ pub record Same (kinds numbers : List ℕ) (zs : List ℤ) (P : Placement) (x y 
   pub deref-y : getD kinds y 0 ≡ derefKind
   pub block : P .block (getD numbers x 0) ≡ P .block (getD numbers y 0)
   pub position : getD zs x (pos 0) +ℤ P .position (getD numbers x 0) ≡ getD zs y (pos 0) +ℤ P .position (getD numbers y 0)
+
+-- what a test of a pair finds
+pub data Unequal (n : ℕ) (kinds numbers : List ℕ) (zs : List ℤ) (P : Placement) (x y : ℕ) : Bool → Type 0 where
+  unequal : y < n → Same kinds numbers zs P x y → (Holds P x (pos 0) y → ⊥) → Unequal n kinds numbers zs P x y true
+  other : Unequal n kinds numbers zs P x y false
 
 -- what a search of the terms before x finds
 pub data Before (kinds numbers : List ℕ) (zs : List ℤ) (P : Placement) (x : ℕ) : Found → Type 0 where
@@ -106,3 +112,11 @@ module _ {kinds numbers : List ℕ} {zs : List ℤ} {P : Placement} {x : ℕ} wh
 
   pub before-all : Before kinds numbers zs P x Found.Nothing → (y : ℕ) → y < x → Same kinds numbers zs P x y → Holds P x (pos 0) y
   before-all (found-none f) = f
+
+module _ {n : ℕ} {kinds numbers : List ℕ} {zs : List ℤ} {P : Placement} {x y : ℕ} where
+  pub unequal-by : y < n → Same kinds numbers zs P x y → (r : Bool) → r ≡ holds P (comparison x (pos 0) y) → Unequal n kinds numbers zs P x y (not r)
+  unequal-by h s true e = other
+  unequal-by h s false e = unequal h s (not-holds P (comparison x (pos 0) y) false e refl)
+
+  pub unequal-looked : x < n → Unequal n kinds numbers zs P x y true → Looked n kinds numbers zs P (Look.Pair x y)
+  unequal-looked h (unequal l s m) = pair h l s m

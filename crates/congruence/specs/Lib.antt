@@ -3,3 +3,4 @@ pub mod Relabelling
 pub mod Joining
 pub mod Live
 pub mod Addresses
+pub mod Closing

@@ -5,19 +5,17 @@ use mathlib.Core.Logic.{_≢_}
 use mathlib.Core.Bool.{Bool, true, false, not}
 use mathlib.Core.List.{List}
 use native.Mathlib.Omega.{arith}
-use native.Mathlib.Nat.{mul-le-mul-right}
 use lib.Dec.{eqb}
 use lib.IntN.{ℤ, pos, negℤ, _+ℤ_}
 use lib.ListN.{length, getD}
 use borrow.Author.Tests.{ne-eqb, eqb-false, not-true}
-use Rattle.integers.specs.Linear.{up, dn, linear, value, #_}
 use Rattle.lists.specs.Items.{Item, In}
 use Rattle.lists.specs.Tabulate.{tabulate, tabulate-at, select, in-select, select-in}
 use Rattle.rules.specs.Terms.{Term, Proposition, equality, disequality, block-disequality, Given, listed, WellFormed}
 use Rattle.rules.specs.Rules.{Contradiction}
 use Rattle.rules.specs.Assignments.{Placement, Holds, Assignment}
 use Rattle.rules.specs.Monotone.{well-formed-less}
-use Rattle.labels.specs.Spread.{Within, Spread, members, members-at-most}
+use Rattle.labels.specs.Spread.{Within, Spread}
 use Rattle.labels.specs.Steps.{State, Step, by-equality, reversed, Bounded, joined-state, joined-spread, Fresh, fresh-state, fresh-spread}
 use Rattle.labels.specs.View.{view}
 use Rattle.closure.specs.Facts.{comparison}
@@ -27,7 +25,7 @@ use Rattle.tables.specs.Limits.{most, offsetLimit}
 use Rattle.tables.specs.Records.{equalityKind, disequalityKind, blockDisequalityKind}
 use Rattle.tables.specs.Call.{Tables, propositionRecord, termsOf, propositionsOf}
 use Rattle.tables.specs.Accepted.{Good, length-terms, accepted-well-formed, accepted-bounded, equality-item, disequality-item, block-item}
-use Rattle.congruence.specs.Joining.{far, Columns, Linked, Joined, down, rise}
+use Rattle.congruence.specs.Joining.{Labels, Linked, Joined, down, rise}
 
 -- proposition k is kept
 abbrev pub isKept : List ℕ → ℕ → Bool
@@ -40,12 +38,15 @@ keptOf T marks = tabulate (isKept marks) 0 (T .propositions)
 abbrev pub kept : Tables → List ℕ → Given
 kept T marks = listed (termsOf T) (select (keptOf T marks) (propositionsOf T))
 
--- the labels, sound and within bounds
+-- labels that are sound, with lowest representatives, and within bounds
+pub record LiveAt (T : Tables) (marks : List ℕ) (P : Placement) : Type 0 where
+  pub state : State (termsOf T) (kept T marks) P
+  pub spread : Spread offsetLimit (T .terms) P
+
 pub record Live (T : Tables) (marks : List ℕ) (reps : List ℕ) (offs : List ℤ) : Type 0 where
   pub reps-long : T .terms ≤ length reps
   pub offs-long : T .terms ≤ length offs
-  pub state : State (termsOf T) (kept T marks) (view reps offs)
-  pub spread : Spread offsetLimit (T .terms) (view reps offs)
+  pub live : LiveAt T marks (view reps offs)
 
 module _ (T : Tables) (marks : List ℕ) (good : Good T) where
   pub kept-well-formed : WellFormed (termsOf T) (kept T marks)
@@ -57,46 +58,24 @@ module _ (T : Tables) (marks : List ℕ) (good : Good T) where
 
   pub fresh-live : (reps : List ℕ) (offs : List ℤ) → T .terms ≤ length reps → T .terms ≤ length offs → Fresh (T .terms) (view reps offs) → Live T marks reps offs
   fresh-live reps offs r o F = record {
-    reps-long = r;
-    offs-long = o;
-    state = fresh-state (termsOf T) (kept T marks) (view reps offs) (rw (length-terms T) F);
-    spread = fresh-spread offsetLimit (T .terms) (view reps offs) F;
-  }
+      reps-long = r;
+      offs-long = o;
+      live = record {
+          state = fresh-state (termsOf T) (kept T marks) (view reps offs) (rw (length-terms T) F);
+          spread = fresh-spread offsetLimit (T .terms) (view reps offs) F } }
 
-  -- a term's offset is not far
-  pub live-columns : {reps : List ℕ} {offs : List ℤ} → Live T marks reps offs → Columns (T .terms) reps offs
-  live-columns {reps} {offs} L = record {
-    reps-long = L .reps-long;
-    offs-long = L .offs-long;
-    near = λ t h.
-        let P = view reps offs in
-        let root = L .state .rooted in
-        let ht = rw (← (length-terms T)) at h in
-        let below : P .block t < T .terms = omega (arith, length-terms T, root .below ht) in
-        let s = mul-le-mul-right offsetLimit (members-at-most (T .terms) P (P .block t)) in
-        let m = mul-le-mul-right offsetLimit (good .few-terms) in
-        let a = L .spread t (P .block t) h below (sym (root .own ht)) in
-        let b = L .spread (P .block t) t below h (root .own ht) in
-        let c = rw (root .own ht) at b in
-        let z = root .zero-offset ht in
-        record { above = omega (linear, a, s, m, z, value (# 0)); below = omega (linear, c, s, m, z, value (# 0)) };
-  }
+  pub live-labels : {reps : List ℕ} {offs : List ℤ} → Live T marks reps offs → Labels (T .terms) reps offs
+  live-labels L = record {
+      few = good .few-terms;
+      reps-long = L .reps-long;
+      offs-long = L .offs-long;
+      rooted = rw (length-terms T) at (L .live .state .rooted);
+      spread = L .live .spread }
 
   -- a step that joins two classes keeps the labels so
-  pub joined-live : {reps0 : List ℕ} {offs0 : List ℤ} (reps : List ℕ) (offs : List ℤ) {a b : ℕ} {z : ℤ} → length reps ≡ length reps0 → length offs ≡ length offs0 → Step (termsOf T) (kept T marks) (view reps0 offs0) a z b → Joined (T .terms) (view reps0 offs0) (view reps offs) a z b → Live T marks reps0 offs0 → Live T marks reps offs
-  joined-live {reps0} {offs0} reps offs {a} {b} {z} lr lo s J L = record {
-    reps-long = omega (arith, L .reps-long);
-    offs-long = omega (arith, L .offs-long);
-    state = state J;
-    spread = spread J;
-  }
+  pub joined-live : {P : Placement} (Q : Placement) {a b : ℕ} {z : ℤ} → Step (termsOf T) (kept T marks) P a z b → Joined (T .terms) P Q a z b → LiveAt T marks P → LiveAt T marks Q
+  joined-live {P} Q {a} {b} {z} s J L = record { state = state J; spread = spread J }
     where
-      P : Placement
-      P = view reps0 offs0
-
-      Q : Placement
-      Q = view reps offs
-
       terms : (x y : ℕ) (w : ℤ) → Linked (T .terms) P Q x w y → Linked (length (termsOf T)) P Q x w y
       terms x y w R = rw (length-terms T) R
 

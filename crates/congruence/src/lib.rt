@@ -9,7 +9,7 @@ use types::TermNumber;
 ghost use mathlib.Core.Path.{_≡_};
 ghost use mathlib.Core.Logic.{_≢_};
 ghost use Prim.Native.Nat.{ℕ, _+_, _^_, _≤_, _<_};
-ghost use lib.IntN.{ℤ, _+ℤ_, pos};
+ghost use lib.IntN.{ℤ, _+ℤ_, _-ℤ_, pos};
 ghost use lib.ListN.{length, getD};
 ghost use Rattle.labels.specs.Relabel.{Relabelled};
 ghost use Rattle.labels.specs.Spread.{Within};
@@ -17,9 +17,10 @@ ghost use Rattle.labels.specs.View.{view};
 ghost use Rattle.labels.specs.Steps.{Fresh};
 ghost use Rattle.closure.specs.Facts.{comparison};
 ghost use Rattle.closure.specs.Verdict.{holds as labelsHold};
-ghost use Rattle.congruence.specs.Joining.{far, Columns, Linked, Joined};
+ghost use Rattle.congruence.specs.Joining.{far, Columns, Labels, Linked, Joined};
 ghost use Rattle.congruence.specs.Live.{Equated};
-ghost use Rattle.congruence.specs.Addresses.{TermColumns, Before, Looked};
+ghost use Rattle.congruence.specs.Addresses.{TermColumns, Unequal, Before, Looked};
+ghost use Rattle.congruence.specs.Closing.{Closing};
 
 // What a search finds: a term, or none.
 pub enum Found {
@@ -47,6 +48,17 @@ fn relabel(reps: &mut [u32], offs: &mut [i64], n: usize, from: u32, d: i64, to: 
     }
 }
 
+// The distance at which a = z + b puts the representative of a from that of b.
+fn distance(offs: &[i64], a: TermNumber, z: i64, b: TermNumber) -> i64
+    requires { ⌜ (a .0 < length (now offs)) × (b .0 < length (now offs)) ⌝ }
+    requires { ⌜ Within far z × (Within far (getD (now offs) (a .0) (pos 0)) × Within far (getD (now offs) (b .0) (pos 0))) ⌝ }
+    ensures { λ r. ⌜ r ≡ z +ℤ getD (now (offs .entry)) (b .0) (pos 0) -ℤ getD (now (offs .entry)) (a .0) (pos 0) ⌝ }
+{
+    let i = a.0;
+    let j = b.0;
+    difference(sum(z, offs[j]), offs[i])
+}
+
 // Moves the class of a to that of b, where a is z + b.
 fn link(reps: &mut [u32], offs: &mut [i64], n: usize, a: TermNumber, z: i64, b: TermNumber)
     requires { ⌜ Columns n (now reps) (now offs) × ((a .0 < n) × ((b .0 < n) × Within far z)) ⌝ }
@@ -54,7 +66,7 @@ fn link(reps: &mut [u32], offs: &mut [i64], n: usize, a: TermNumber, z: i64, b: 
 {
     let i = a.0;
     let j = b.0;
-    let d = difference(sum(z, offs[j]), offs[i]);
+    let d = distance(offs, a, z, b);
     let from = reps[i];
     let to = reps[j];
     relabel(reps, offs, n, from, d, to);
@@ -125,7 +137,7 @@ fn equate(
 fn address(numbers: &[u32], zs: &[i32], offs: &[i64], x: TermNumber) -> i64
     requires { ⌜ (x .0 < length (now numbers)) × ((x .0 < length (now zs)) × (getD (now numbers) (x .0) 0 < length (now offs))) ⌝ }
     requires { ⌜ Within far (getD (now offs) (getD (now numbers) (x .0) 0) (pos 0)) ⌝ }
-    ensures { λ r. ⌜ r ≡ getD (now (zs .entry)) (x .0) (pos 0) +ℤ getD (now (offs .entry)) (getD (now (numbers .entry)) (x .0) 0) (pos 0) ⌝ }
+    ensures { λ r. ⌜ (r ≡ getD (now (zs .entry)) (x .0) (pos 0) +ℤ getD (now (offs .entry)) (getD (now (numbers .entry)) (x .0) 0) (pos 0)) × Within (2 ^ 42) r ⌝ }
 {
     let i = x.0;
     let inner = numbers[i] as usize;
@@ -202,4 +214,143 @@ fn unequal_pair(
         }
     }
     Look::Closed
+}
+
+// Lists in `found` the dereferences over the class of `rep`, and returns how many there are.
+fn uses(kinds: &[u8], numbers: &[u32], zs: &[i32], reps: &[u32], n: usize, rep: u32, found: &mut [u32]) -> usize
+    requires { ⌜ TermColumns n (now kinds) (now numbers) (now zs) × ((n ≤ 512) × ((n ≤ length (now reps)) × (n ≤ length (now found)))) ⌝ }
+    ensures { λ r. ⌜ r ≤ n ⌝ }
+{
+    let mut count = 0;
+    for x in 0..n {
+        if kinds[x] != 3 {
+            continue;
+        }
+        let inner = numbers[x] as usize;
+        if reps[inner] != rep {
+            continue;
+        }
+        found[count] = x as u32;
+        count += 1;
+    }
+    count
+}
+
+// One more than the first of the listed dereferences whose address is `at`, or 0. What `found` holds is not relied on.
+fn partner(kinds: &[u8], numbers: &[u32], zs: &[i32], reps: &[u32], offs: &[i64], n: usize, found: &[u32], count: usize, at: i64) -> u32
+    requires { ⌜ TermColumns n (now kinds) (now numbers) (now zs) × (Columns n (now reps) (now offs) × ((n ≤ 512) × (count ≤ length (now found)))) ⌝ }
+{
+    for k in 0..count {
+        let y = found[k] as usize;
+        if n <= y {
+            continue;
+        }
+        if kinds[y] != 3 {
+            continue;
+        }
+        if is_same(at, address(numbers, zs, offs, TermNumber(y))) {
+            return (y + 1) as u32;
+        }
+    }
+    0
+}
+
+// Notes for each dereference over the class of `from` one of the listed dereferences whose address is d more, if it has none yet.
+fn set_partners(kinds: &[u8], numbers: &[u32], zs: &[i32], reps: &[u32], offs: &[i64], n: usize, from: u32, d: i64, found: &[u32], count: usize, partners: &mut [u32])
+    requires { ⌜ TermColumns n (now kinds) (now numbers) (now zs) × (Columns n (now reps) (now offs) × ((n ≤ 512) × (count ≤ length (now found)))) ⌝ }
+    requires { ⌜ Within (2 ^ 43) d × (n ≤ length (now partners)) ⌝ }
+{
+    for x in 0..n {
+        if kinds[x] != 3 {
+            continue;
+        }
+        let inner = numbers[x] as usize;
+        if reps[inner] != from {
+            continue;
+        }
+        if partners[x] != 0 {
+            continue;
+        }
+        let at = sum(address(numbers, zs, offs, TermNumber(x)), d);
+        partners[x] = partner(kinds, numbers, zs, reps, offs, n, found, count, at);
+    }
+}
+
+// Before the class of a is joined to that of b by a = z + b: notes for each dereference over the one a partner over the other that
+// will have its address. The partners only say where to look first; each is tested before it is used.
+fn note_partners(kinds: &[u8], numbers: &[u32], zs: &[i32], reps: &[u32], offs: &[i64], n: usize, a: TermNumber, z: i64, b: TermNumber, partners: &mut [u32])
+    requires { ⌜ TermColumns n (now kinds) (now numbers) (now zs) × (Columns n (now reps) (now offs) × ((a .0 < n) × ((b .0 < n) × Within far z))) ⌝ }
+    requires { ⌜ (n ≤ 512) × (n ≤ length (now partners)) ⌝ }
+{
+    let i = a.0;
+    let j = b.0;
+    let d = distance(offs, a, z, b);
+    let mut found = [0u32; 512];
+    let count = uses(kinds, numbers, zs, reps, n, reps[j], &mut found);
+    set_partners(kinds, numbers, zs, reps, offs, n, reps[i], d, &found, count, partners);
+}
+
+// Whether x and y are dereferences of one address with different labels.
+fn is_unequal(kinds: &[u8], numbers: &[u32], zs: &[i32], reps: &[u32], offs: &[i64], n: usize, x: TermNumber, y: TermNumber) -> bool
+    requires { ⌜ TermColumns n (now kinds) (now numbers) (now zs) × (Columns n (now reps) (now offs) × (x .0 < n)) ⌝ }
+    ensures { λ r. ⌜ Unequal n (now (kinds .entry)) (now (numbers .entry)) (now (zs .entry)) (view (now (reps .entry)) (now (offs .entry))) (x .0) (y .0) r ⌝ }
+{
+    let i = x.0;
+    let j = y.0;
+    if n <= j {
+        return false;
+    }
+    if kinds[i] != 3 {
+        return false;
+    }
+    if kinds[j] != 3 {
+        return false;
+    }
+    let inner = numbers[i] as usize;
+    let other = numbers[j] as usize;
+    if reps[inner] != reps[other] {
+        return false;
+    }
+    if !is_same(address(numbers, zs, offs, x), address(numbers, zs, offs, y)) {
+        return false;
+    }
+    !holds(reps, offs, n, x, 0, y)
+}
+
+// Two dereferences of one address with different labels: a noted pair, else the first of all pairs.
+fn next_pair(kinds: &[u8], numbers: &[u32], zs: &[i32], reps: &[u32], offs: &[i64], n: usize, partners: &mut [u32]) -> Look
+    requires { ⌜ TermColumns n (now kinds) (now numbers) (now zs) × (Columns n (now reps) (now offs) × (n ≤ length (now partners))) ⌝ }
+    ensures { λ r. ⌜ Looked n (now (kinds .entry)) (now (numbers .entry)) (now (zs .entry)) (view (now (reps .entry)) (now (offs .entry))) r ⌝ }
+{
+    for x in 0..n {
+        let noted = partners[x];
+        if noted == 0 {
+            continue;
+        }
+        partners[x] = 0;
+        let y = (noted - 1) as usize;
+        if is_unequal(kinds, numbers, zs, reps, offs, n, TermNumber(x), TermNumber(y)) {
+            return Look::Pair(x, y);
+        }
+    }
+    unequal_pair(kinds, numbers, zs, reps, offs, n)
+}
+
+// Joins dereferences of one address until all agree; or finds two of one class that do not.
+fn close(kinds: &[u8], numbers: &[u32], zs: &[i32], reps: &mut [u32], offs: &mut [i64], n: usize, partners: &mut [u32]) -> bool
+    requires { ⌜ TermColumns n (now kinds) (now numbers) (now zs) × (Labels n (now reps) (now offs) × (n ≤ length (now partners))) ⌝ }
+    ensures { λ r. ⌜ Closing n (now (kinds .entry)) (now (numbers .entry)) (now (zs .entry)) (view (now (reps .entry)) (now (offs .entry))) (view (now (reps .exit)) (now (offs .exit))) r ⌝ }
+{
+    loop {
+        match next_pair(kinds, numbers, zs, reps, offs, n, partners) {
+            Look::Closed => return true,
+            Look::Pair(x, y) => {
+                if reps[x] == reps[y] {
+                    return false;
+                }
+                note_partners(kinds, numbers, zs, reps, offs, n, TermNumber(x), 0, TermNumber(y), partners);
+                join(reps, offs, n, TermNumber(x), 0, TermNumber(y));
+            }
+        }
+    }
 }

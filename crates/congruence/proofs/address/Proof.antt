@@ -1,3 +1,4 @@
+use Rattle.closure.specs.Distance.{wider}
 use lib.IntN.{pos}
 use lib.ListN.{getD}
 -- `congruence::address` meets its contract.
@@ -58,9 +59,12 @@ sum-requires c κs =
 -- src/lib.rt:119:1
 returns : tie.Need-returns
 returns c =
-    let e = rw (toZ-ofZ w32 _ (sfits-of (c .before .before .before .widened-arg .given))) at (c .before .before .widened .ensures) in
+    let s = c .before .before .before .before .before .before in
+    let given = sfits-of {z = getD (s .args .zs .now) (s .args .x .0) (pos 0)} (c .before .before .before .widened-arg .given) in
+    let e = rw (toZ-ofZ w32 _ given) at (c .before .before .widened .ensures) in
     let f = rw (toZ-ofZ w64 (c .before .before .widened .result) (sfits-of (c .before .before .widened .ok)), toZ-ofZ w64 _ (sfits-of (c .before .sum-arg .given)), e) at (c .sum .ensures) in
-    rw (toZ-ofZ w64 (c .sum .result) (sfits-of (c .sum .ok))) f
+    rw (toZ-ofZ w64 (c .sum .result) (sfits-of (c .sum .ok)))
+    (f, rw f (wider (omega arith) (within-sum (fits-within {z = getD (s .args .zs .now) (s .args .x .0) (pos 0)} given) (s .pre .1))))
 
 pub address-spec : {M : Type 1} → statement M
 address-spec =

@@ -114,7 +114,7 @@ loop-again-3 : tie.Need-loop-again-3 Inv-loop μ-loop
 loop-again-3 c =
     let l = c .before .before .before .before .before .before .before .before .before in
     let s = c .before .before .before .before .before .before .before .before .before .before .before .before .before in
-    let e = rw (toZ-ofZ w64 (c .before .before .address .result) (sfits-of (c .before .before .address .ok)), toZ-ofZ w64 (s .args .at) (s .fits .at), c .before .before .address .ensures, s .pre .1 .1) at (c .before .is-same .ensures) in
+    let e = rw (toZ-ofZ w64 (c .before .before .address .result) (sfits-of (c .before .before .address .ok)), toZ-ofZ w64 (s .args .at) (s .fits .at), c .before .before .address .ensures .0, s .pre .1 .1) at (c .before .is-same .ensures) in
     (omega (arith, c .before .before .before .before .before .before .before .before .loop-test .taken), below-more _ (l .loop .y) (l .loop .inv .1) (λ k. absurd (eqℤ-false _ _ (sym e ∙ clear-false _ (c .if3 .taken)) (k .position))))
 
 -- src/lib.rt:147:12
@@ -144,7 +144,7 @@ returns : tie.Need-returns Inv-loop μ-loop
 returns c =
     let l = c .before .before .before .before .before .before .before .before .before .before .before in
     let s = c .before .before .before .before .before .before .before .before .before .before .before .before .before .before .before in
-    let e = rw (toZ-ofZ w64 (c .before .before .before .before .address .result) (sfits-of (c .before .before .before .before .address .ok)), toZ-ofZ w64 (s .args .at) (s .fits .at), c .before .before .before .before .address .ensures, s .pre .1 .1) at (c .before .before .before .is-same .ensures) in
+    let e = rw (toZ-ofZ w64 (c .before .before .before .before .address .result) (sfits-of (c .before .before .before .before .address .ok)), toZ-ofZ w64 (s .args .at) (s .fits .at), c .before .before .before .before .address .ensures .0, s .pre .1 .1) at (c .before .before .before .is-same .ensures) in
     found-at (c .before .before .before .before .before .before .before .before .before .before .loop-test .taken)
     (record { deref-x = s .pre .0 .1 .1 .1; deref-y = c .before .before .before .before .before .before .before .before .if1 .left; block = sym (s .pre .1 .0) ∙ sym (c .before .before .before .before .before .if2 .left); position = eqℤ-true _ _ (sym e ∙ not-false _ (c .before .before .if3 .left)) })
     (not-holds _ (comparison _ (pos 0) _) (c .before .holds .result) (c .before .holds .ensures) (c .if4 .left))

@@ -74,7 +74,7 @@ shared-slice-read-congruent-before c = omega (arith, c .before .before .before .
 congruent-before-requires : tie.Need-congruent-before-requires Inv-loop μ-loop
 congruent-before-requires c κs =
     let s = c .before .before .before .before .before .before .before .before .before .before in
-    ((s .pre .0, (s .pre .1, (omega (arith, c .before .before .before .before .before .loop-test .taken), c .before .before .before .if1 .left))), (refl, rw (toZ-ofZ w64 (c .before .address .result) (sfits-of (c .before .address .ok))) (c .before .address .ensures)))
+    ((s .pre .0, (s .pre .1, (omega (arith, c .before .before .before .before .before .loop-test .taken), c .before .before .before .if1 .left))), (refl, rw (toZ-ofZ w64 (c .before .address .result) (sfits-of (c .before .address .ok))) (c .before .address .ensures .0)))
 
 -- src/lib.rt:167:26
 enum-known-found : tie.Need-enum-known-found Inv-loop μ-loop
