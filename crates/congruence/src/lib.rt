@@ -5,6 +5,7 @@ use offsets::is_same;
 use offsets::negated;
 use offsets::sum;
 use offsets::widened;
+use types::PropositionNumber;
 use types::TermNumber;
 ghost use mathlib.Core.Path.{_≡_};
 ghost use mathlib.Core.Logic.{_≢_};
@@ -18,7 +19,9 @@ ghost use Rattle.labels.specs.Steps.{Fresh};
 ghost use Rattle.closure.specs.Facts.{comparison};
 ghost use Rattle.closure.specs.Verdict.{holds as labelsHold};
 ghost use Rattle.congruence.specs.Joining.{far, Columns, Labels, Linked, Joined};
-ghost use Rattle.congruence.specs.Live.{Equated};
+ghost use Rattle.tables.specs.Call.{setOf};
+ghost use Rattle.tables.specs.Accepted.{Good};
+ghost use Rattle.congruence.specs.Live.{Live, Equated, Advanced, Equalities};
 ghost use Rattle.congruence.specs.Addresses.{TermColumns, Unequal, Before, Looked};
 ghost use Rattle.congruence.specs.Closing.{Closing};
 
@@ -110,27 +113,6 @@ pub fn holds(reps: &[u32], offs: &[i64], n: usize, a: TermNumber, z: i64, b: Ter
         return false;
     }
     is_same(offs[i], sum(z, offs[j]))
-}
-
-// Joins a = z + b, if they are in two classes; else tells whether the labels agree with it.
-fn equate(
-    reps: &mut [u32],
-    offs: &mut [i64],
-    n: usize,
-    a: TermNumber,
-    z: i64,
-    b: TermNumber,
-) -> bool
-    requires { ⌜ Columns n (now reps) (now offs) × ((a .0 < n) × ((b .0 < n) × Within far z)) ⌝ }
-    ensures { λ r. ⌜ Equated n (now (reps .entry)) (now (offs .entry)) (now (reps .exit)) (now (offs .exit)) (a .0) z (b .0) r ⌝ }
-{
-    let i = a.0;
-    let j = b.0;
-    if reps[i] == reps[j] {
-        return holds(reps, offs, n, a, z, b);
-    }
-    join(reps, offs, n, a, z, b);
-    true
 }
 
 // The address that the dereference x reads, as an offset from the representative of the term inside.
@@ -353,4 +335,55 @@ fn close(kinds: &[u8], numbers: &[u32], zs: &[i32], reps: &mut [u32], offs: &mut
             }
         }
     }
+}
+
+// Joins a = z + b, if they are in two classes; else tells whether the labels agree with it.
+fn equate(kinds: &[u8], numbers: &[u32], zs: &[i32], reps: &mut [u32], offs: &mut [i64], n: usize, a: TermNumber, z: i64, b: TermNumber, partners: &mut [u32]) -> bool
+    requires { ⌜ TermColumns n (now kinds) (now numbers) (now zs) × (Columns n (now reps) (now offs) × ((a .0 < n) × ((b .0 < n) × Within far z))) ⌝ }
+    requires { ⌜ (n ≤ 512) × (n ≤ length (now partners)) ⌝ }
+    ensures { λ r. ⌜ Equated n (now (reps .entry)) (now (offs .entry)) (now (reps .exit)) (now (offs .exit)) (a .0) z (b .0) r ⌝ }
+{
+    let i = a.0;
+    let j = b.0;
+    if reps[i] == reps[j] {
+        return holds(reps, offs, n, a, z, b);
+    }
+    note_partners(kinds, numbers, zs, reps, offs, n, a, z, b, partners);
+    join(reps, offs, n, a, z, b);
+    true
+}
+
+// Joins proposition p, if it is a kept equality; tells whether the labels agree with it.
+fn join_equality(n: usize, kinds: &[u8], numbers: &[u32], zs: &[i32], m: usize, pkinds: &[u8], lefts: &[u32], pzs: &[i32], rights: &[u32], marks: &[u8], reps: &mut [u32], offs: &mut [i64], partners: &mut [u32], p: PropositionNumber) -> bool
+    requires { ⌜ Good (setOf n (now kinds) (now numbers) (now zs) m (now pkinds) (now lefts) (now pzs) (now rights)) ⌝ }
+    requires { ⌜ Live (setOf n (now kinds) (now numbers) (now zs) m (now pkinds) (now lefts) (now pzs) (now rights)) (now marks) (now reps) (now offs) ⌝ }
+    requires { ⌜ (m ≤ length (now marks)) × ((n ≤ length (now partners)) × (p .0 < m)) ⌝ }
+    ensures { λ r. ⌜ Advanced (setOf n (now (kinds .entry)) (now (numbers .entry)) (now (zs .entry)) m (now (pkinds .entry)) (now (lefts .entry)) (now (pzs .entry)) (now (rights .entry))) (now (marks .entry)) (view (now (reps .entry)) (now (offs .entry))) (now (reps .exit)) (now (offs .exit)) (p .0) r ⌝ }
+{
+    let i = p.0;
+    if marks[i] == 0 {
+        return true;
+    }
+    if pkinds[i] != 0x11 {
+        return true;
+    }
+    let a = TermNumber(lefts[i] as usize);
+    let b = TermNumber(rights[i] as usize);
+    let z = widened(pzs[i]);
+    equate(kinds, numbers, zs, reps, offs, n, a, z, b, partners)
+}
+
+// Joins the kept equalities; tells whether the labels agree with all of them.
+fn join_equalities(n: usize, kinds: &[u8], numbers: &[u32], zs: &[i32], m: usize, pkinds: &[u8], lefts: &[u32], pzs: &[i32], rights: &[u32], marks: &[u8], reps: &mut [u32], offs: &mut [i64], partners: &mut [u32]) -> bool
+    requires { ⌜ Good (setOf n (now kinds) (now numbers) (now zs) m (now pkinds) (now lefts) (now pzs) (now rights)) ⌝ }
+    requires { ⌜ Live (setOf n (now kinds) (now numbers) (now zs) m (now pkinds) (now lefts) (now pzs) (now rights)) (now marks) (now reps) (now offs) ⌝ }
+    requires { ⌜ (m ≤ length (now marks)) × (n ≤ length (now partners)) ⌝ }
+    ensures { λ r. ⌜ Equalities (setOf n (now (kinds .entry)) (now (numbers .entry)) (now (zs .entry)) m (now (pkinds .entry)) (now (lefts .entry)) (now (pzs .entry)) (now (rights .entry))) (now (marks .entry)) (now (reps .exit)) (now (offs .exit)) r ⌝ }
+{
+    for p in 0..m {
+        if !join_equality(n, kinds, numbers, zs, m, pkinds, lefts, pzs, rights, marks, reps, offs, partners, PropositionNumber(p)) {
+            return false;
+        }
+    }
+    true
 }
