@@ -4,3 +4,4 @@ pub mod Joining
 pub mod Live
 pub mod Addresses
 pub mod Closing
+pub mod Deciding

@@ -24,6 +24,7 @@ ghost use Rattle.tables.specs.Accepted.{Good};
 ghost use Rattle.congruence.specs.Live.{Live, Equated, Advanced, Equalities};
 ghost use Rattle.congruence.specs.Addresses.{TermColumns, Unequal, Before, Looked};
 ghost use Rattle.congruence.specs.Closing.{Closing};
+ghost use Rattle.congruence.specs.Deciding.{Judged, Refuted, Meets, Meeting, Decided};
 
 // What a search finds: a term, or none.
 pub enum Found {
@@ -386,4 +387,93 @@ fn join_equalities(n: usize, kinds: &[u8], numbers: &[u32], zs: &[i32], m: usize
         }
     }
     true
+}
+
+// Whether the labels contradict proposition p, if it is a kept disequality or block disequality.
+fn is_refuted(n: usize, kinds: &[u8], numbers: &[u32], zs: &[i32], m: usize, pkinds: &[u8], lefts: &[u32], pzs: &[i32], rights: &[u32], marks: &[u8], reps: &[u32], offs: &[i64], p: PropositionNumber) -> bool
+    requires { ⌜ Good (setOf n (now kinds) (now numbers) (now zs) m (now pkinds) (now lefts) (now pzs) (now rights)) ⌝ }
+    requires { ⌜ Live (setOf n (now kinds) (now numbers) (now zs) m (now pkinds) (now lefts) (now pzs) (now rights)) (now marks) (now reps) (now offs) ⌝ }
+    requires { ⌜ (m ≤ length (now marks)) × (p .0 < m) ⌝ }
+    ensures { λ r. ⌜ Judged (setOf n (now (kinds .entry)) (now (numbers .entry)) (now (zs .entry)) m (now (pkinds .entry)) (now (lefts .entry)) (now (pzs .entry)) (now (rights .entry))) (now (marks .entry)) (view (now (reps .entry)) (now (offs .entry))) (p .0) r ⌝ }
+{
+    let i = p.0;
+    if marks[i] == 0 {
+        return false;
+    }
+    let left = lefts[i] as usize;
+    let right = rights[i] as usize;
+    if pkinds[i] == 0x12 {
+        return holds(reps, offs, n, TermNumber(left), widened(pzs[i]), TermNumber(right));
+    }
+    if pkinds[i] == 0x13 {
+        return reps[left] == reps[right];
+    }
+    false
+}
+
+// Whether the labels contradict a kept disequality or block disequality.
+fn any_refuted(n: usize, kinds: &[u8], numbers: &[u32], zs: &[i32], m: usize, pkinds: &[u8], lefts: &[u32], pzs: &[i32], rights: &[u32], marks: &[u8], reps: &[u32], offs: &[i64]) -> bool
+    requires { ⌜ Good (setOf n (now kinds) (now numbers) (now zs) m (now pkinds) (now lefts) (now pzs) (now rights)) ⌝ }
+    requires { ⌜ Live (setOf n (now kinds) (now numbers) (now zs) m (now pkinds) (now lefts) (now pzs) (now rights)) (now marks) (now reps) (now offs) × (m ≤ length (now marks)) ⌝ }
+    ensures { λ r. ⌜ Refuted (setOf n (now (kinds .entry)) (now (numbers .entry)) (now (zs .entry)) m (now (pkinds .entry)) (now (lefts .entry)) (now (pzs .entry)) (now (rights .entry))) (now (marks .entry)) (view (now (reps .entry)) (now (offs .entry))) r ⌝ }
+{
+    for p in 0..m {
+        if is_refuted(n, kinds, numbers, zs, m, pkinds, lefts, pzs, rights, marks, reps, offs, PropositionNumber(p)) {
+            return true;
+        }
+    }
+    false
+}
+
+// Whether a variable before t is in t's class.
+fn variable_before(kinds: &[u8], reps: &[u32], n: usize, t: TermNumber) -> bool
+    requires { ⌜ (n ≤ length (now kinds)) × ((n ≤ length (now reps)) × (t .0 < n)) ⌝ }
+    ensures { λ r. ⌜ Meets (now (kinds .entry)) (now (reps .entry)) (t .0) r ⌝ }
+{
+    let i = t.0;
+    let rep = reps[i];
+    for j in 0..i {
+        if kinds[j] != 1 {
+            continue;
+        }
+        if reps[j] == rep {
+            return true;
+        }
+    }
+    false
+}
+
+// Whether two variables are in one class.
+fn variables_meet(kinds: &[u8], reps: &[u32], n: usize) -> bool
+    requires { ⌜ (n ≤ length (now kinds)) × (n ≤ length (now reps)) ⌝ }
+    ensures { λ r. ⌜ Meeting n (now (kinds .entry)) (now (reps .entry)) r ⌝ }
+{
+    for t in 0..n {
+        if kinds[t] != 1 {
+            continue;
+        }
+        if variable_before(kinds, reps, n, TermNumber(t)) {
+            return true;
+        }
+    }
+    false
+}
+
+// The verdict on the kept propositions: whether they are consistent. If they are, the labels are the closure's.
+pub fn is_consistent(n: usize, kinds: &[u8], numbers: &[u32], zs: &[i32], m: usize, pkinds: &[u8], lefts: &[u32], pzs: &[i32], rights: &[u32], marks: &[u8], reps: &mut [u32], offs: &mut [i64], partners: &mut [u32]) -> bool
+    requires { ⌜ Good (setOf n (now kinds) (now numbers) (now zs) m (now pkinds) (now lefts) (now pzs) (now rights)) ⌝ }
+    requires { ⌜ (m ≤ length (now marks)) × ((n ≤ length (now reps)) × ((n ≤ length (now offs)) × (n ≤ length (now partners)))) ⌝ }
+    ensures { λ r. ⌜ Decided (setOf n (now (kinds .entry)) (now (numbers .entry)) (now (zs .entry)) m (now (pkinds .entry)) (now (lefts .entry)) (now (pzs .entry)) (now (rights .entry))) (now (marks .entry)) (now (reps .exit)) (now (offs .exit)) r ⌝ }
+{
+    reset(reps, offs, n);
+    if !join_equalities(n, kinds, numbers, zs, m, pkinds, lefts, pzs, rights, marks, reps, offs, partners) {
+        return false;
+    }
+    if !close(kinds, numbers, zs, reps, offs, n, partners) {
+        return false;
+    }
+    if any_refuted(n, kinds, numbers, zs, m, pkinds, lefts, pzs, rights, marks, reps, offs) {
+        return false;
+    }
+    !variables_meet(kinds, reps, n)
 }

@@ -1,0 +1,73 @@
+use Rattle.congruence.proofs.variables_meet.Statement.{statement}
+use Rattle.congruence.proofs.variables_meet.Tie as tie
+use Rattle.congruence.proofs.variables_meet.Reads as reads
+use Rattle.congruence.proofs.variables_meet.Lts as lts
+use Rattle.congruence.proofs.variable_before.Reads as variable-before-reads
+
+abbrev Inv-loop : tie.InvT-loop
+Inv-loop kinds reps n t₀ t = ?
+
+abbrev μ-loop : tie.MeasureT-loop
+μ-loop kinds reps n t₀ t = ?
+
+-- src/lib.rt:451:5
+loop-holds : tie.Need-loop-holds Inv-loop μ-loop
+loop-holds c = ?
+
+-- src/lib.rt:452:12
+shared-slice-read-if1 : tie.Need-shared-slice-read-if1 Inv-loop μ-loop
+shared-slice-read-if1 c = ?
+
+-- src/lib.rt:453:13
+add-t : tie.Need-add-t Inv-loop μ-loop
+add-t c = ?
+
+-- src/lib.rt:451:5
+loop-less : tie.Need-loop-less Inv-loop μ-loop
+loop-less c = ?
+
+-- src/lib.rt:451:5
+loop-again : tie.Need-loop-again Inv-loop μ-loop
+loop-again c = ?
+
+-- src/lib.rt:455:12
+variable-before-requires : tie.Need-variable-before-requires Inv-loop μ-loop
+variable-before-requires c κs = ?
+
+-- src/lib.rt:456:13
+returns : tie.Need-returns Inv-loop μ-loop
+returns c = ?
+
+-- src/lib.rt:451:9
+add-t-2 : tie.Need-add-t-2 Inv-loop μ-loop
+add-t-2 c = ?
+
+-- src/lib.rt:451:5
+loop-less-2 : tie.Need-loop-less-2 Inv-loop μ-loop
+loop-less-2 c = ?
+
+-- src/lib.rt:451:5
+loop-again-2 : tie.Need-loop-again-2 Inv-loop μ-loop
+loop-again-2 c = ?
+
+-- src/lib.rt:447:1
+returns-2 : tie.Need-returns-2 Inv-loop μ-loop
+returns-2 c = ?
+
+pub variables-meet-spec : {M : Type 1} → statement M
+variables-meet-spec =
+    tie.close
+    (tie.spec
+    Inv-loop
+    μ-loop
+    loop-holds
+    shared-slice-read-if1
+    add-t
+    loop-less
+    loop-again
+    variable-before-requires
+    returns
+    add-t-2
+    loop-less-2
+    loop-again-2
+    returns-2)
