@@ -2,7 +2,7 @@
 use Prim.Native.Nat.{ℕ, zero, suc, _+_, _<_, _≤_}
 use mathlib.Core.Path.{_≡_, refl, sym, _∙_, ap}
 use mathlib.Core.Logic.{_≢_, _⊎_, inl, inr, ⊎-elim}
-use mathlib.Core.Bool.{Bool, true, false, _&&_, _||_}
+use mathlib.Core.Bool.{Bool, true, false, not, _&&_, _||_}
 use mathlib.Core.List.{List}
 use mathlib.Core.Option.{Option, none, some}
 use native.Mathlib.Omega.{arith}
@@ -24,16 +24,17 @@ use Rattle.tables.specs.Records.{TermRecord, variableKind, derefKind, equalityK
 use Rattle.tables.specs.Call.{Tables, termRecord, propositionRecord, termsOf, propositionsOf}
 use Rattle.tables.specs.Stands.{StandsFor, Asserts}
 use Rattle.tables.specs.Accepted.{Good, length-terms, sides-listed, atoms-once, term-at, proposition-at, deref-item, variable-item, equality-item, disequality-item, block-item}
-use Rattle.congruence.specs.Live.{isKept, keptOf, kept, LiveAt, Live, EqualBelow, kept-well-formed, kept-in}
+use Rattle.congruence.specs.Live.{isKept, keptOf, kept, LiveAt, Live, EqualBelow, Equalities, agree, disagree, kept-well-formed, kept-in}
 use Rattle.congruence.specs.Addresses.{Same, not-holds}
+use Rattle.congruence.specs.Closing.{Closing, closed, clash, chain-keeps, chain-live}
 
 -- a kept disequality or block disequality contradicts the labels, or not
 pub data Judged (T : Tables) (marks : List ℕ) (P : Placement) (p : ℕ) : Bool → Type 0 where
   wrong : Contradiction (termsOf T) (kept T marks) → Judged T marks P p true
   right :
-    (isKept marks p ≡ true → propositionRecord T p .kind ≡ disequalityKind → Holds P (propositionRecord T p .left) (propositionRecord T p .offset) (propositionRecord T p .right) → ⊥) →
-    (isKept marks p ≡ true → propositionRecord T p .kind ≡ blockDisequalityKind → P .block (propositionRecord T p .left) ≡ P .block (propositionRecord T p .right) → ⊥) →
-    Judged T marks P p false
+      (isKept marks p ≡ true → propositionRecord T p .kind ≡ disequalityKind → Holds P (propositionRecord T p .left) (propositionRecord T p .offset) (propositionRecord T p .right) → ⊥) →
+      (isKept marks p ≡ true → propositionRecord T p .kind ≡ blockDisequalityKind → P .block (propositionRecord T p .left) ≡ P .block (propositionRecord T p .right) → ⊥) →
+      Judged T marks P p false
 
 pub data Refuted (T : Tables) (marks : List ℕ) (P : Placement) : Bool → Type 0 where
   refuted : Contradiction (termsOf T) (kept T marks) → Refuted T marks P true
@@ -99,7 +100,7 @@ module _ (T : Tables) (marks : List ℕ) (good : Good T) where
   names-differ {i} {j} hi hj ki kj e =
       let once = atoms-once T good i j hi hj in
       let same : sameAtom (termRecord T i) (termRecord T j) ≡ true =
-          rw (eq-eqb _ _ ki, eq-eqb _ _ (ki ∙ sym kj), eq-eqb _ _ e) in
+      rw (eq-eqb _ _ ki, eq-eqb _ _ (ki ∙ sym kj), eq-eqb _ _ e) in
       let z : _≡_ {A = ℕ} 0 1 = cc in
       omega arith
 
@@ -139,27 +140,29 @@ module _ (T : Tables) (marks : List ℕ) (good : Good T) where
 
   -- labels that agree with every kept fact are an assignment
   pub assignment :
-    {reps : List ℕ} (offs : List ℤ) →
-    EqualBelow T marks (T .propositions) (view reps offs) →
-    ((x y : ℕ) → x < T .terms → y < T .terms → Same (T .termKinds) (T .termNumbers) (T .termOffsets) (view reps offs) x y → Holds (view reps offs) x (pos 0) y) →
-    ((k : ℕ) → k < T .propositions → Judged T marks (view reps offs) k false) →
-    Meeting (T .terms) (T .termKinds) reps false →
-    Assignment (termsOf T) (kept T marks) (view reps offs)
+      {reps : List ℕ} (offs : List ℤ) →
+      EqualBelow T marks (T .propositions) (view reps offs) →
+      ((x y : ℕ) → x < T .terms → y < T .terms → Same (T .termKinds) (T .termNumbers) (T .termOffsets) (view reps offs) x y → Holds (view reps offs) x (pos 0) y) →
+      ((k : ℕ) → k < T .propositions → Judged T marks (view reps offs) k false) →
+      Meeting (T .terms) (T .termKinds) reps false →
+      Assignment (termsOf T) (kept T marks) (view reps offs)
   assignment offs E C J M = record {
-      respects = record {
-          equal = λ i. let r = kept-at i in rw (r .2 .left, r .2 .offset, r .2 .right) at (E (r .0) (r .1) (r .3) (r .2 .kind));
-          congruent = λ {t1} {t2} {d1} {d2} {z1} {z2} i j b p.
-              let a1 = term-at T good d1 i in
-              let a2 = term-at T good d2 j in
-              C d1 d2 (a1 .0) (a2 .0)
-              (record { deref-x = a1 .1 .kind; deref-y = a2 .1 .kind; block = rw (a1 .1 .number, a2 .1 .number) b; position = rw (a1 .1 .number, a2 .1 .number, a1 .1 .offset, a2 .1 .offset) p }) };
-      unequal = λ i h. let r = kept-at i in not-wrong-disequality (J (r .0) (r .1)) (r .3) (r .2 .kind) (rw (r .2 .left, r .2 .offset, r .2 .right) h);
-      apart = λ {t1} {t2} g b. ⊎-elim
-          (λ (i : In (block-disequality t1 t2) (select (keptOf T marks) (propositionsOf T))).
-              let r = kept-at i in
-              not-wrong-block (J (r .0) (r .1)) (r .3) (r .2 .kind) (rw (r .2 .left, r .2 .right) b))
-          (λ (v : DistinctVariables (termsOf T) t1 t2). variables-apart t1 t2 M v b)
-          g }
+    respects = record {
+      equal = λ i. let r = kept-at i in rw (r .2 .left, r .2 .offset, r .2 .right) at (E (r .0) (r .1) (r .3) (r .2 .kind));
+      congruent = λ {t1} {t2} {d1} {d2} {z1} {z2} i j b p.
+          let a1 = term-at T good d1 i in
+          let a2 = term-at T good d2 j in
+          C d1 d2 (a1 .0) (a2 .0)
+          (record { deref-x = a1 .1 .kind; deref-y = a2 .1 .kind; block = rw (a1 .1 .number, a2 .1 .number) b; position = rw (a1 .1 .number, a2 .1 .number, a1 .1 .offset, a2 .1 .offset) p });
+    };
+    unequal = λ i h. let r = kept-at i in not-wrong-disequality (J (r .0) (r .1)) (r .3) (r .2 .kind) (rw (r .2 .left, r .2 .offset, r .2 .right) h);
+    apart = λ {t1} {t2} g b. ⊎-elim
+        (λ (i : In (block-disequality t1 t2) (select (keptOf T marks) (propositionsOf T))).
+        let r = kept-at i in
+        not-wrong-block (J (r .0) (r .1)) (r .3) (r .2 .kind) (rw (r .2 .left, r .2 .right) b))
+        (λ (v : DistinctVariables (termsOf T) t1 t2). variables-apart t1 t2 M v b)
+        g;
+  }
 
   pub judged-disequality : {P : Placement} (p : ℕ) → LiveAt T marks P → p < T .propositions → isKept marks p ≡ true → propositionRecord T p .kind ≡ disequalityKind → (r : Bool) → r ≡ holds P (comparison (propositionRecord T p .left) (propositionRecord T p .offset) (propositionRecord T p .right)) → Judged T marks P p r
   judged-disequality {P} p L h k e true q = disequality-fails p L h k e (holds-true P _ (sym q))
@@ -178,3 +181,31 @@ module _ (T : Tables) (marks : List ℕ) (good : Good T) where
 
   pub refuted-right : {P : Placement} → Refuted T marks P false → (k : ℕ) → k < T .propositions → Judged T marks P k false
   refuted-right (upheld f) = f
+
+  pub equalities-on : {reps : List ℕ} {offs : List ℤ} → Equalities T marks reps offs true → Live T marks reps offs × EqualBelow T marks (T .propositions) (view reps offs)
+  equalities-on (agree L B) = (L, B)
+
+  pub equalities-off : {reps : List ℕ} {offs : List ℤ} → Equalities T marks reps offs false → Contradiction (termsOf T) (kept T marks)
+  equalities-off (disagree c) = c
+
+  -- after the closure: the labels, the equalities and the dereferences
+  pub record Closure (P : Placement) : Type 0 where
+    pub live : LiveAt T marks P
+    pub below : EqualBelow T marks (T .propositions) P
+    pub agree : (x y : ℕ) → x < T .terms → y < T .terms → Same (T .termKinds) (T .termNumbers) (T .termOffsets) P x y → Holds P x (pos 0) y
+
+  pub closing-on : {P Q : Placement} → Closing (T .terms) (T .termKinds) (T .termNumbers) (T .termOffsets) P Q true → LiveAt T marks P → EqualBelow T marks (T .propositions) P → Closure Q
+  closing-on (closed c f) L B = record {
+    live = chain-live T marks good c L;
+    below = λ k b m e. let s = sides-listed T good k b in chain-keeps (T .terms) (T .termKinds) (T .termNumbers) (T .termOffsets) c (s .0) (s .1) (B k b m e);
+    agree = f;
+  }
+
+  pub closing-off : {P Q : Placement} → Closing (T .terms) (T .termKinds) (T .termNumbers) (T .termOffsets) P Q false → LiveAt T marks P → Contradiction (termsOf T) (kept T marks)
+  closing-off (clash c hx hy s b m) L = clash-fails (chain-live T marks good c L) hx hy s b m
+
+  -- the last test
+  pub decided : {reps : List ℕ} {offs : List ℤ} → T .terms ≤ length reps → T .terms ≤ length offs → Closure (view reps offs) → Refuted T marks (view reps offs) false → (r : Bool) → Meeting (T .terms) (T .termKinds) reps r → Decided T marks reps offs (not r)
+  decided {reps} {offs} lr lo C R true M = contradictory (meet-fails offs (C .live) M)
+  decided {reps} {offs} lr lo C R false M =
+      consistent (record { reps-long = lr; offs-long = lo; live = C .live }) (assignment offs (C .below) (C .agree) (refuted-right R) M)

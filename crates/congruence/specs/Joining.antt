@@ -111,26 +111,28 @@ pub record Labels (n : ℕ) (reps : List ℕ) (offs : List ℤ) : Type 0 where
 -- no offset is far
 pub labels-columns : {n : ℕ} {reps : List ℕ} {offs : List ℤ} → Labels n reps offs → Columns n reps offs
 labels-columns {n} {reps} {offs} L = record {
-    reps-long = L .reps-long;
-    offs-long = L .offs-long;
-    near = λ t h.
-        let P = view reps offs in
-        let below = L .rooted .below h in
-        let s = mul-le-mul-right offsetLimit (members-at-most n P (P .block t)) in
-        let m = mul-le-mul-right offsetLimit (L .few) in
-        let a = L .spread t (P .block t) h below (sym (L .rooted .own h)) in
-        let b = rw (L .rooted .own h) at (L .spread (P .block t) t below h (L .rooted .own h)) in
-        let z = L .rooted .zero-offset h in
-        record { above = omega (linear, a, s, m, z, value (# 0)); below = omega (linear, b, s, m, z, value (# 0)) } }
+  reps-long = L .reps-long;
+  offs-long = L .offs-long;
+  near = λ t h.
+      let P = view reps offs in
+      let below = L .rooted .below h in
+      let s = mul-le-mul-right offsetLimit (members-at-most n P (P .block t)) in
+      let m = mul-le-mul-right offsetLimit (L .few) in
+      let a = L .spread t (P .block t) h below (sym (L .rooted .own h)) in
+      let b = rw (L .rooted .own h) at (L .spread (P .block t) t below h (L .rooted .own h)) in
+      let z = L .rooted .zero-offset h in
+      record { above = omega (linear, a, s, m, z, value (# 0)); below = omega (linear, b, s, m, z, value (# 0)) };
+}
 
 -- a join at an offset within the limit keeps labels so
 pub joined-labels : {n : ℕ} {reps0 : List ℕ} {offs0 : List ℤ} (reps : List ℕ) (offs : List ℤ) {a b : ℕ} {z : ℤ} → length reps ≡ length reps0 → length offs ≡ length offs0 → a < n → b < n → Within offsetLimit z → Joined n (view reps0 offs0) (view reps offs) a z b → Labels n reps0 offs0 → Labels n reps offs
 joined-labels {n} {reps0} {offs0} reps offs {a} {b} {z} lr lo ha hb w J L = record {
-    few = L .few;
-    reps-long = omega (arith, L .reps-long);
-    offs-long = omega (arith, L .offs-long);
-    rooted = rooted J;
-    spread = spread J }
+  few = L .few;
+  reps-long = omega (arith, L .reps-long);
+  offs-long = omega (arith, L .offs-long);
+  rooted = rooted J;
+  spread = spread J;
+}
   where
     P : Placement
     P = view reps0 offs0

@@ -60,19 +60,22 @@ module _ (T : Tables) (marks : List ℕ) (good : Good T) where
 
   pub fresh-live : (reps : List ℕ) (offs : List ℤ) → T .terms ≤ length reps → T .terms ≤ length offs → Fresh (T .terms) (view reps offs) → Live T marks reps offs
   fresh-live reps offs r o F = record {
-      reps-long = r;
-      offs-long = o;
-      live = record {
-          state = fresh-state (termsOf T) (kept T marks) (view reps offs) (rw (length-terms T) F);
-          spread = fresh-spread offsetLimit (T .terms) (view reps offs) F } }
+    reps-long = r;
+    offs-long = o;
+    live = record {
+      state = fresh-state (termsOf T) (kept T marks) (view reps offs) (rw (length-terms T) F);
+      spread = fresh-spread offsetLimit (T .terms) (view reps offs) F;
+    };
+  }
 
   pub live-labels : {reps : List ℕ} {offs : List ℤ} → Live T marks reps offs → Labels (T .terms) reps offs
   live-labels L = record {
-      few = good .few-terms;
-      reps-long = L .reps-long;
-      offs-long = L .offs-long;
-      rooted = rw (length-terms T) at (L .live .state .rooted);
-      spread = L .live .spread }
+    few = good .few-terms;
+    reps-long = L .reps-long;
+    offs-long = L .offs-long;
+    rooted = rw (length-terms T) at (L .live .state .rooted);
+    spread = L .live .spread;
+  }
 
   -- a step that joins two classes keeps the labels so
   pub joined-live : {P : Placement} (Q : Placement) {a b : ℕ} {z : ℤ} → Step (termsOf T) (kept T marks) P a z b → Joined (T .terms) P Q a z b → LiveAt T marks P → LiveAt T marks Q
@@ -110,10 +113,10 @@ EqualBelow T marks p P =
 -- the labels after proposition p was joined, if it is a kept equality; or a contradiction
 pub data Advanced (T : Tables) (marks : List ℕ) (P : Placement) (reps : List ℕ) (offs : List ℤ) (p : ℕ) : Bool → Type 0 where
   on :
-    Live T marks reps offs →
-    ((t u : ℕ) (y : ℤ) → t < T .terms → u < T .terms → Holds P t y u → Holds (view reps offs) t y u) →
-    (isKept marks p ≡ true → propositionRecord T p .kind ≡ equalityKind → Holds (view reps offs) (propositionRecord T p .left) (propositionRecord T p .offset) (propositionRecord T p .right)) →
-    Advanced T marks P reps offs p true
+      Live T marks reps offs →
+      ((t u : ℕ) (y : ℤ) → t < T .terms → u < T .terms → Holds P t y u → Holds (view reps offs) t y u) →
+      (isKept marks p ≡ true → propositionRecord T p .kind ≡ equalityKind → Holds (view reps offs) (propositionRecord T p .left) (propositionRecord T p .offset) (propositionRecord T p .right)) →
+      Advanced T marks P reps offs p true
   off : Contradiction (termsOf T) (kept T marks) → Advanced T marks P reps offs p false
 
 -- the labels after all kept equalities were joined; or a contradiction
@@ -133,23 +136,24 @@ module _ (T : Tables) (marks : List ℕ) (good : Good T) where
   advance-none L m = on L (λ t u y ht hu h. h) (λ k e. absurd (m k e))
 
   pub advance :
-    {reps0 : List ℕ} {offs0 : List ℤ} (reps : List ℕ) (offs : List ℤ) (p : ℕ) (r : Bool) →
-    Live T marks reps0 offs0 →
-    length reps ≡ length reps0 →
-    length offs ≡ length offs0 →
-    p < T .propositions →
-    isKept marks p ≡ true →
-    propositionRecord T p .kind ≡ equalityKind →
-    Equated (T .terms) reps0 offs0 reps offs (propositionRecord T p .left) (propositionRecord T p .offset) (propositionRecord T p .right) r →
-    Advanced T marks (view reps0 offs0) reps offs p r
+      {reps0 : List ℕ} {offs0 : List ℤ} (reps : List ℕ) (offs : List ℤ) (p : ℕ) (r : Bool) →
+      Live T marks reps0 offs0 →
+      length reps ≡ length reps0 →
+      length offs ≡ length offs0 →
+      p < T .propositions →
+      isKept marks p ≡ true →
+      propositionRecord T p .kind ≡ equalityKind →
+      Equated (T .terms) reps0 offs0 reps offs (propositionRecord T p .left) (propositionRecord T p .offset) (propositionRecord T p .right) r →
+      Advanced T marks (view reps0 offs0) reps offs p r
   advance {reps0} {offs0} reps offs p true L lr lo h k e (joined J) =
       let sides = sides-listed T good p h in
       let g = kept-in p h (equality-item T good p h e) k in
       on
       (record {
-          reps-long = omega (arith, L .reps-long);
-          offs-long = omega (arith, L .offs-long);
-          live = joined-live T marks good (view reps offs) (by-equality g) J (L .live) })
+        reps-long = omega (arith, L .reps-long);
+        offs-long = omega (arith, L .offs-long);
+        live = joined-live T marks good (view reps offs) (by-equality g) J (L .live);
+      })
       (λ t u y ht hu q. joined-keeps (T .terms) (view reps0 offs0) (view reps offs) _ _ _ (sides .0) (sides .1) J ht hu q)
       (λ k2 e2. joined-holds (T .terms) (view reps0 offs0) (view reps offs) _ _ _ (sides .0) (sides .1) J)
   advance {reps0} {offs0} reps offs p true L lr lo h k e (held sr so q) =
@@ -166,8 +170,8 @@ module _ (T : Tables) (marks : List ℕ) (good : Good T) where
       ⊎-elim
       (λ (s : k ≡ p). rw s (here (rw s at m) (rw s at e)))
       (λ (n : k ≢ p).
-          let sides = sides-listed T good k (omega arith) in
-          keeps _ _ _ (sides .0) (sides .1) (B k (omega arith) m e))
+      let sides = sides-listed T good k (omega arith) in
+      keeps _ _ _ (sides .0) (sides .1) (B k (omega arith) m e))
       (same-or-not k p)
 
   pub advanced-live : {P : Placement} {reps : List ℕ} {offs : List ℤ} {p : ℕ} → Advanced T marks P reps offs p true → Live T marks reps offs

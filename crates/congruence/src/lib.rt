@@ -200,7 +200,15 @@ fn unequal_pair(
 }
 
 // Lists in `found` the dereferences over the class of `rep`, and returns how many there are.
-fn uses(kinds: &[u8], numbers: &[u32], zs: &[i32], reps: &[u32], n: usize, rep: u32, found: &mut [u32]) -> usize
+fn uses(
+    kinds: &[u8],
+    numbers: &[u32],
+    zs: &[i32],
+    reps: &[u32],
+    n: usize,
+    rep: u32,
+    found: &mut [u32],
+) -> usize
     requires { ⌜ TermColumns n (now kinds) (now numbers) (now zs) × ((n ≤ 512) × ((n ≤ length (now reps)) × (n ≤ length (now found)))) ⌝ }
     ensures { λ r. ⌜ r ≤ n ⌝ }
 {
@@ -220,7 +228,17 @@ fn uses(kinds: &[u8], numbers: &[u32], zs: &[i32], reps: &[u32], n: usize, rep: 
 }
 
 // One more than the first of the listed dereferences whose address is `at`, or 0. What `found` holds is not relied on.
-fn partner(kinds: &[u8], numbers: &[u32], zs: &[i32], reps: &[u32], offs: &[i64], n: usize, found: &[u32], count: usize, at: i64) -> u32
+fn partner(
+    kinds: &[u8],
+    numbers: &[u32],
+    zs: &[i32],
+    reps: &[u32],
+    offs: &[i64],
+    n: usize,
+    found: &[u32],
+    count: usize,
+    at: i64,
+) -> u32
     requires { ⌜ TermColumns n (now kinds) (now numbers) (now zs) × (Columns n (now reps) (now offs) × ((n ≤ 512) × (count ≤ length (now found)))) ⌝ }
 {
     for k in 0..count {
@@ -239,7 +257,19 @@ fn partner(kinds: &[u8], numbers: &[u32], zs: &[i32], reps: &[u32], offs: &[i64]
 }
 
 // Notes for each dereference over the class of `from` one of the listed dereferences whose address is d more, if it has none yet.
-fn set_partners(kinds: &[u8], numbers: &[u32], zs: &[i32], reps: &[u32], offs: &[i64], n: usize, from: u32, d: i64, found: &[u32], count: usize, partners: &mut [u32])
+fn set_partners(
+    kinds: &[u8],
+    numbers: &[u32],
+    zs: &[i32],
+    reps: &[u32],
+    offs: &[i64],
+    n: usize,
+    from: u32,
+    d: i64,
+    found: &[u32],
+    count: usize,
+    partners: &mut [u32],
+)
     requires { ⌜ TermColumns n (now kinds) (now numbers) (now zs) × (Columns n (now reps) (now offs) × ((n ≤ 512) × (count ≤ length (now found)))) ⌝ }
     requires { ⌜ Within (2 ^ 43) d × (n ≤ length (now partners)) ⌝ }
 {
@@ -261,7 +291,18 @@ fn set_partners(kinds: &[u8], numbers: &[u32], zs: &[i32], reps: &[u32], offs: &
 
 // Before the class of a is joined to that of b by a = z + b: notes for each dereference over the one a partner over the other that
 // will have its address. The partners only say where to look first; each is tested before it is used.
-fn note_partners(kinds: &[u8], numbers: &[u32], zs: &[i32], reps: &[u32], offs: &[i64], n: usize, a: TermNumber, z: i64, b: TermNumber, partners: &mut [u32])
+fn note_partners(
+    kinds: &[u8],
+    numbers: &[u32],
+    zs: &[i32],
+    reps: &[u32],
+    offs: &[i64],
+    n: usize,
+    a: TermNumber,
+    z: i64,
+    b: TermNumber,
+    partners: &mut [u32],
+)
     requires { ⌜ TermColumns n (now kinds) (now numbers) (now zs) × (Columns n (now reps) (now offs) × ((a .0 < n) × ((b .0 < n) × Within far z))) ⌝ }
     requires { ⌜ (n ≤ 512) × (n ≤ length (now partners)) ⌝ }
 {
@@ -270,11 +311,32 @@ fn note_partners(kinds: &[u8], numbers: &[u32], zs: &[i32], reps: &[u32], offs: 
     let d = distance(offs, a, z, b);
     let mut found = [0u32; 512];
     let count = uses(kinds, numbers, zs, reps, n, reps[j], &mut found);
-    set_partners(kinds, numbers, zs, reps, offs, n, reps[i], d, &found, count, partners);
+    set_partners(
+        kinds,
+        numbers,
+        zs,
+        reps,
+        offs,
+        n,
+        reps[i],
+        d,
+        &found,
+        count,
+        partners,
+    );
 }
 
 // Whether x and y are dereferences of one address with different labels.
-fn is_unequal(kinds: &[u8], numbers: &[u32], zs: &[i32], reps: &[u32], offs: &[i64], n: usize, x: TermNumber, y: TermNumber) -> bool
+fn is_unequal(
+    kinds: &[u8],
+    numbers: &[u32],
+    zs: &[i32],
+    reps: &[u32],
+    offs: &[i64],
+    n: usize,
+    x: TermNumber,
+    y: TermNumber,
+) -> bool
     requires { ⌜ TermColumns n (now kinds) (now numbers) (now zs) × (Columns n (now reps) (now offs) × (x .0 < n)) ⌝ }
     ensures { λ r. ⌜ Unequal n (now (kinds .entry)) (now (numbers .entry)) (now (zs .entry)) (view (now (reps .entry)) (now (offs .entry))) (x .0) (y .0) r ⌝ }
 {
@@ -301,7 +363,15 @@ fn is_unequal(kinds: &[u8], numbers: &[u32], zs: &[i32], reps: &[u32], offs: &[i
 }
 
 // Two dereferences of one address with different labels: a noted pair, else the first of all pairs.
-fn next_pair(kinds: &[u8], numbers: &[u32], zs: &[i32], reps: &[u32], offs: &[i64], n: usize, partners: &mut [u32]) -> Look
+fn next_pair(
+    kinds: &[u8],
+    numbers: &[u32],
+    zs: &[i32],
+    reps: &[u32],
+    offs: &[i64],
+    n: usize,
+    partners: &mut [u32],
+) -> Look
     requires { ⌜ TermColumns n (now kinds) (now numbers) (now zs) × (Columns n (now reps) (now offs) × (n ≤ length (now partners))) ⌝ }
     ensures { λ r. ⌜ Looked n (now (kinds .entry)) (now (numbers .entry)) (now (zs .entry)) (view (now (reps .entry)) (now (offs .entry))) r ⌝ }
 {
@@ -312,7 +382,16 @@ fn next_pair(kinds: &[u8], numbers: &[u32], zs: &[i32], reps: &[u32], offs: &[i6
         }
         partners[x] = 0;
         let y = (noted - 1) as usize;
-        if is_unequal(kinds, numbers, zs, reps, offs, n, TermNumber(x), TermNumber(y)) {
+        if is_unequal(
+            kinds,
+            numbers,
+            zs,
+            reps,
+            offs,
+            n,
+            TermNumber(x),
+            TermNumber(y),
+        ) {
             return Look::Pair(x, y);
         }
     }
@@ -320,7 +399,15 @@ fn next_pair(kinds: &[u8], numbers: &[u32], zs: &[i32], reps: &[u32], offs: &[i6
 }
 
 // Joins dereferences of one address until all agree; or finds two of one class that do not.
-fn close(kinds: &[u8], numbers: &[u32], zs: &[i32], reps: &mut [u32], offs: &mut [i64], n: usize, partners: &mut [u32]) -> bool
+fn close(
+    kinds: &[u8],
+    numbers: &[u32],
+    zs: &[i32],
+    reps: &mut [u32],
+    offs: &mut [i64],
+    n: usize,
+    partners: &mut [u32],
+) -> bool
     requires { ⌜ TermColumns n (now kinds) (now numbers) (now zs) × (Labels n (now reps) (now offs) × (n ≤ length (now partners))) ⌝ }
     ensures { λ r. ⌜ Closing n (now (kinds .entry)) (now (numbers .entry)) (now (zs .entry)) (view (now (reps .entry)) (now (offs .entry))) (view (now (reps .exit)) (now (offs .exit))) r ⌝ }
 {
@@ -331,7 +418,18 @@ fn close(kinds: &[u8], numbers: &[u32], zs: &[i32], reps: &mut [u32], offs: &mut
                 if reps[x] == reps[y] {
                     return false;
                 }
-                note_partners(kinds, numbers, zs, reps, offs, n, TermNumber(x), 0, TermNumber(y), partners);
+                note_partners(
+                    kinds,
+                    numbers,
+                    zs,
+                    reps,
+                    offs,
+                    n,
+                    TermNumber(x),
+                    0,
+                    TermNumber(y),
+                    partners,
+                );
                 join(reps, offs, n, TermNumber(x), 0, TermNumber(y));
             }
         }
@@ -339,7 +437,18 @@ fn close(kinds: &[u8], numbers: &[u32], zs: &[i32], reps: &mut [u32], offs: &mut
 }
 
 // Joins a = z + b, if they are in two classes; else tells whether the labels agree with it.
-fn equate(kinds: &[u8], numbers: &[u32], zs: &[i32], reps: &mut [u32], offs: &mut [i64], n: usize, a: TermNumber, z: i64, b: TermNumber, partners: &mut [u32]) -> bool
+fn equate(
+    kinds: &[u8],
+    numbers: &[u32],
+    zs: &[i32],
+    reps: &mut [u32],
+    offs: &mut [i64],
+    n: usize,
+    a: TermNumber,
+    z: i64,
+    b: TermNumber,
+    partners: &mut [u32],
+) -> bool
     requires { ⌜ TermColumns n (now kinds) (now numbers) (now zs) × (Columns n (now reps) (now offs) × ((a .0 < n) × ((b .0 < n) × Within far z))) ⌝ }
     requires { ⌜ (n ≤ 512) × (n ≤ length (now partners)) ⌝ }
     ensures { λ r. ⌜ Equated n (now (reps .entry)) (now (offs .entry)) (now (reps .exit)) (now (offs .exit)) (a .0) z (b .0) r ⌝ }
@@ -355,7 +464,22 @@ fn equate(kinds: &[u8], numbers: &[u32], zs: &[i32], reps: &mut [u32], offs: &mu
 }
 
 // Joins proposition p, if it is a kept equality; tells whether the labels agree with it.
-fn join_equality(n: usize, kinds: &[u8], numbers: &[u32], zs: &[i32], m: usize, pkinds: &[u8], lefts: &[u32], pzs: &[i32], rights: &[u32], marks: &[u8], reps: &mut [u32], offs: &mut [i64], partners: &mut [u32], p: PropositionNumber) -> bool
+fn join_equality(
+    n: usize,
+    kinds: &[u8],
+    numbers: &[u32],
+    zs: &[i32],
+    m: usize,
+    pkinds: &[u8],
+    lefts: &[u32],
+    pzs: &[i32],
+    rights: &[u32],
+    marks: &[u8],
+    reps: &mut [u32],
+    offs: &mut [i64],
+    partners: &mut [u32],
+    p: PropositionNumber,
+) -> bool
     requires { ⌜ Good (setOf n (now kinds) (now numbers) (now zs) m (now pkinds) (now lefts) (now pzs) (now rights)) ⌝ }
     requires { ⌜ Live (setOf n (now kinds) (now numbers) (now zs) m (now pkinds) (now lefts) (now pzs) (now rights)) (now marks) (now reps) (now offs) ⌝ }
     requires { ⌜ (m ≤ length (now marks)) × ((n ≤ length (now partners)) × (p .0 < m)) ⌝ }
@@ -375,14 +499,43 @@ fn join_equality(n: usize, kinds: &[u8], numbers: &[u32], zs: &[i32], m: usize, 
 }
 
 // Joins the kept equalities; tells whether the labels agree with all of them.
-fn join_equalities(n: usize, kinds: &[u8], numbers: &[u32], zs: &[i32], m: usize, pkinds: &[u8], lefts: &[u32], pzs: &[i32], rights: &[u32], marks: &[u8], reps: &mut [u32], offs: &mut [i64], partners: &mut [u32]) -> bool
+fn join_equalities(
+    n: usize,
+    kinds: &[u8],
+    numbers: &[u32],
+    zs: &[i32],
+    m: usize,
+    pkinds: &[u8],
+    lefts: &[u32],
+    pzs: &[i32],
+    rights: &[u32],
+    marks: &[u8],
+    reps: &mut [u32],
+    offs: &mut [i64],
+    partners: &mut [u32],
+) -> bool
     requires { ⌜ Good (setOf n (now kinds) (now numbers) (now zs) m (now pkinds) (now lefts) (now pzs) (now rights)) ⌝ }
     requires { ⌜ Live (setOf n (now kinds) (now numbers) (now zs) m (now pkinds) (now lefts) (now pzs) (now rights)) (now marks) (now reps) (now offs) ⌝ }
     requires { ⌜ (m ≤ length (now marks)) × (n ≤ length (now partners)) ⌝ }
     ensures { λ r. ⌜ Equalities (setOf n (now (kinds .entry)) (now (numbers .entry)) (now (zs .entry)) m (now (pkinds .entry)) (now (lefts .entry)) (now (pzs .entry)) (now (rights .entry))) (now (marks .entry)) (now (reps .exit)) (now (offs .exit)) r ⌝ }
 {
     for p in 0..m {
-        if !join_equality(n, kinds, numbers, zs, m, pkinds, lefts, pzs, rights, marks, reps, offs, partners, PropositionNumber(p)) {
+        if !join_equality(
+            n,
+            kinds,
+            numbers,
+            zs,
+            m,
+            pkinds,
+            lefts,
+            pzs,
+            rights,
+            marks,
+            reps,
+            offs,
+            partners,
+            PropositionNumber(p),
+        ) {
             return false;
         }
     }
@@ -390,7 +543,21 @@ fn join_equalities(n: usize, kinds: &[u8], numbers: &[u32], zs: &[i32], m: usize
 }
 
 // Whether the labels contradict proposition p, if it is a kept disequality or block disequality.
-fn is_refuted(n: usize, kinds: &[u8], numbers: &[u32], zs: &[i32], m: usize, pkinds: &[u8], lefts: &[u32], pzs: &[i32], rights: &[u32], marks: &[u8], reps: &[u32], offs: &[i64], p: PropositionNumber) -> bool
+fn is_refuted(
+    n: usize,
+    kinds: &[u8],
+    numbers: &[u32],
+    zs: &[i32],
+    m: usize,
+    pkinds: &[u8],
+    lefts: &[u32],
+    pzs: &[i32],
+    rights: &[u32],
+    marks: &[u8],
+    reps: &[u32],
+    offs: &[i64],
+    p: PropositionNumber,
+) -> bool
     requires { ⌜ Good (setOf n (now kinds) (now numbers) (now zs) m (now pkinds) (now lefts) (now pzs) (now rights)) ⌝ }
     requires { ⌜ Live (setOf n (now kinds) (now numbers) (now zs) m (now pkinds) (now lefts) (now pzs) (now rights)) (now marks) (now reps) (now offs) ⌝ }
     requires { ⌜ (m ≤ length (now marks)) × (p .0 < m) ⌝ }
@@ -403,7 +570,14 @@ fn is_refuted(n: usize, kinds: &[u8], numbers: &[u32], zs: &[i32], m: usize, pki
     let left = lefts[i] as usize;
     let right = rights[i] as usize;
     if pkinds[i] == 0x12 {
-        return holds(reps, offs, n, TermNumber(left), widened(pzs[i]), TermNumber(right));
+        return holds(
+            reps,
+            offs,
+            n,
+            TermNumber(left),
+            widened(pzs[i]),
+            TermNumber(right),
+        );
     }
     if pkinds[i] == 0x13 {
         return reps[left] == reps[right];
@@ -412,13 +586,40 @@ fn is_refuted(n: usize, kinds: &[u8], numbers: &[u32], zs: &[i32], m: usize, pki
 }
 
 // Whether the labels contradict a kept disequality or block disequality.
-fn any_refuted(n: usize, kinds: &[u8], numbers: &[u32], zs: &[i32], m: usize, pkinds: &[u8], lefts: &[u32], pzs: &[i32], rights: &[u32], marks: &[u8], reps: &[u32], offs: &[i64]) -> bool
+fn any_refuted(
+    n: usize,
+    kinds: &[u8],
+    numbers: &[u32],
+    zs: &[i32],
+    m: usize,
+    pkinds: &[u8],
+    lefts: &[u32],
+    pzs: &[i32],
+    rights: &[u32],
+    marks: &[u8],
+    reps: &[u32],
+    offs: &[i64],
+) -> bool
     requires { ⌜ Good (setOf n (now kinds) (now numbers) (now zs) m (now pkinds) (now lefts) (now pzs) (now rights)) ⌝ }
     requires { ⌜ Live (setOf n (now kinds) (now numbers) (now zs) m (now pkinds) (now lefts) (now pzs) (now rights)) (now marks) (now reps) (now offs) × (m ≤ length (now marks)) ⌝ }
     ensures { λ r. ⌜ Refuted (setOf n (now (kinds .entry)) (now (numbers .entry)) (now (zs .entry)) m (now (pkinds .entry)) (now (lefts .entry)) (now (pzs .entry)) (now (rights .entry))) (now (marks .entry)) (view (now (reps .entry)) (now (offs .entry))) r ⌝ }
 {
     for p in 0..m {
-        if is_refuted(n, kinds, numbers, zs, m, pkinds, lefts, pzs, rights, marks, reps, offs, PropositionNumber(p)) {
+        if is_refuted(
+            n,
+            kinds,
+            numbers,
+            zs,
+            m,
+            pkinds,
+            lefts,
+            pzs,
+            rights,
+            marks,
+            reps,
+            offs,
+            PropositionNumber(p),
+        ) {
             return true;
         }
     }
@@ -460,19 +661,60 @@ fn variables_meet(kinds: &[u8], reps: &[u32], n: usize) -> bool
 }
 
 // The verdict on the kept propositions: whether they are consistent. If they are, the labels are the closure's.
-pub fn is_consistent(n: usize, kinds: &[u8], numbers: &[u32], zs: &[i32], m: usize, pkinds: &[u8], lefts: &[u32], pzs: &[i32], rights: &[u32], marks: &[u8], reps: &mut [u32], offs: &mut [i64], partners: &mut [u32]) -> bool
+pub fn is_consistent(
+    n: usize,
+    kinds: &[u8],
+    numbers: &[u32],
+    zs: &[i32],
+    m: usize,
+    pkinds: &[u8],
+    lefts: &[u32],
+    pzs: &[i32],
+    rights: &[u32],
+    marks: &[u8],
+    reps: &mut [u32],
+    offs: &mut [i64],
+    partners: &mut [u32],
+) -> bool
     requires { ⌜ Good (setOf n (now kinds) (now numbers) (now zs) m (now pkinds) (now lefts) (now pzs) (now rights)) ⌝ }
     requires { ⌜ (m ≤ length (now marks)) × ((n ≤ length (now reps)) × ((n ≤ length (now offs)) × (n ≤ length (now partners)))) ⌝ }
     ensures { λ r. ⌜ Decided (setOf n (now (kinds .entry)) (now (numbers .entry)) (now (zs .entry)) m (now (pkinds .entry)) (now (lefts .entry)) (now (pzs .entry)) (now (rights .entry))) (now (marks .entry)) (now (reps .exit)) (now (offs .exit)) r ⌝ }
 {
     reset(reps, offs, n);
-    if !join_equalities(n, kinds, numbers, zs, m, pkinds, lefts, pzs, rights, marks, reps, offs, partners) {
+    if !join_equalities(
+        n,
+        kinds,
+        numbers,
+        zs,
+        m,
+        pkinds,
+        lefts,
+        pzs,
+        rights,
+        marks,
+        reps,
+        offs,
+        partners,
+    ) {
         return false;
     }
     if !close(kinds, numbers, zs, reps, offs, n, partners) {
         return false;
     }
-    if any_refuted(n, kinds, numbers, zs, m, pkinds, lefts, pzs, rights, marks, reps, offs) {
+    if any_refuted(
+        n,
+        kinds,
+        numbers,
+        zs,
+        m,
+        pkinds,
+        lefts,
+        pzs,
+        rights,
+        marks,
+        reps,
+        offs,
+    ) {
         return false;
     }
     !variables_meet(kinds, reps, n)

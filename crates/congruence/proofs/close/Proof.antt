@@ -117,11 +117,12 @@ loop-again c =
     let r = c .before .before .before .join .kept .0 in
     let o = c .before .before .before .join .kept .1 .0 in
     record {
-        chain = more (l .loop .inv .chain) (p .below-x) (p .below-y) (p .same) (c .before .before .before .join .ensures);
-        labels = joined-labels _ _ r o (p .below-x) (p .below-y) zero-within (c .before .before .before .join .ensures) (l .loop .inv .labels);
-        reps-same = r ∙ l .loop .inv .reps-same;
-        offs-same = o ∙ l .loop .inv .offs-same;
-        partners-same = c .before .before .before .before .before .before .before .before .note-partners .kept .1 .1 .1 .1 .1 .1 .1 .1 .1 .0 ∙ (c .before .before .before .before .before .before .before .before .before .before .before .before .before .before .before .before .before .before .before .before .next-pair .kept .1 .1 .1 .1 .1 .1 .0 ∙ l .loop .inv .partners-same) }
+      chain = more (l .loop .inv .chain) (p .below-x) (p .below-y) (p .same) (c .before .before .before .join .ensures);
+      labels = joined-labels _ _ r o (p .below-x) (p .below-y) zero-within (c .before .before .before .join .ensures) (l .loop .inv .labels);
+      reps-same = r ∙ l .loop .inv .reps-same;
+      offs-same = o ∙ l .loop .inv .offs-same;
+      partners-same = c .before .before .before .before .before .before .before .before .note-partners .kept .1 .1 .1 .1 .1 .1 .1 .1 .1 .0 ∙ (c .before .before .before .before .before .before .before .before .before .before .before .before .before .before .before .before .before .before .before .before .next-pair .kept .1 .1 .1 .1 .1 .1 .0 ∙ l .loop .inv .partners-same);
+    }
 
 pub close-spec : {M : Type 1} → statement M
 close-spec =

@@ -76,9 +76,10 @@ holds-requires c κs =
     let s = c .before .before .before .before .before .before .before .before .before .before .before .before .before .before .before in
     let sides = sides-listed _ (s .pre .0) (s .args .p .0) (s .pre .1 .1 .1) in
     let given = sfits-of {z = getD (s .args .pzs .now) (s .args .p .0) (pos 0)} (c .before .widened-arg .given) in
-    let e = rw (toZ-ofZ w32 _ given) at (c .widened .ensures) in
-    (labels-columns (live-labels _ _ (s .pre .0) (s .pre .1 .0)),
-    (sides .0, (sides .1, rw (toZ-ofZ w64 (c .widened .result) (sfits-of (c .widened .ok)), e) (wider (omega arith) (fits-within given)))))
+    let e = rw (toZ-ofZ w32 _ given) at (c .widened .ensures) in (
+      labels-columns (live-labels _ _ (s .pre .0) (s .pre .1 .0)),
+      (sides .0, (sides .1, rw (toZ-ofZ w64 (c .widened .result) (sfits-of (c .widened .ok)), e) (wider (omega arith) (fits-within given)))),
+    )
 
 -- src/lib.rt:406:9
 returns-2 : tie.Need-returns-2

@@ -66,12 +66,13 @@ loop-again c =
     let l = c .before .before .before .before .before .before .before .before .before .before .before in
     let a = rw (not-false (c .before .before .before .before .before .before .join-equality .result) (c .if1 .left)) at (c .before .before .before .before .before .before .join-equality .ensures) in
     record {
-        within = omega (arith, c .before .before .before .before .before .before .before .before .before .before .loop-test .taken);
-        live = advanced-live _ _ (s .pre .0) a;
-        below = below-next _ _ (s .pre .0) (c .before .before .before .before .before .before .before .before .before .before .loop-test .taken) (l .loop .inv .below) a;
-        reps-same = c .before .before .before .before .before .before .join-equality .kept .1 .1 .1 .1 .1 .1 .1 .1 .1 .1 .0 ∙ l .loop .inv .reps-same;
-        offs-same = c .before .before .before .before .before .before .join-equality .kept .1 .1 .1 .1 .1 .1 .1 .1 .1 .1 .1 .0 ∙ l .loop .inv .offs-same;
-        partners-same = c .before .before .before .before .before .before .join-equality .kept .1 .1 .1 .1 .1 .1 .1 .1 .1 .1 .1 .1 .0 ∙ l .loop .inv .partners-same }
+      within = omega (arith, c .before .before .before .before .before .before .before .before .before .before .loop-test .taken);
+      live = advanced-live _ _ (s .pre .0) a;
+      below = below-next _ _ (s .pre .0) (c .before .before .before .before .before .before .before .before .before .before .loop-test .taken) (l .loop .inv .below) a;
+      reps-same = c .before .before .before .before .before .before .join-equality .kept .1 .1 .1 .1 .1 .1 .1 .1 .1 .1 .0 ∙ l .loop .inv .reps-same;
+      offs-same = c .before .before .before .before .before .before .join-equality .kept .1 .1 .1 .1 .1 .1 .1 .1 .1 .1 .1 .0 ∙ l .loop .inv .offs-same;
+      partners-same = c .before .before .before .before .before .before .join-equality .kept .1 .1 .1 .1 .1 .1 .1 .1 .1 .1 .1 .1 .0 ∙ l .loop .inv .partners-same;
+    }
 
 -- src/lib.rt:377:1
 same-length-4 : tie.Need-same-length-4 Inv-loop μ-loop

@@ -79,11 +79,16 @@ equate-requires c κs =
     let h = s .pre .1 .1 .1 .1 in
     let sides = sides-listed _ (s .pre .0) (s .args .p .0) h in
     let given = sfits-of {z = getD (s .args .pzs .now) (s .args .p .0) (pos 0)} (c .before .before .before .before .widened-arg .given) in
-    let e = rw (toZ-ofZ w32 _ given) at (c .before .before .before .widened .ensures) in
-    ((good-columns _ (s .pre .0),
-    (labels-columns (live-labels _ _ (s .pre .0) (s .pre .1 .0)),
-    (sides .0, (sides .1, rw (toZ-ofZ w64 (c .before .before .before .widened .result) (sfits-of (c .before .before .before .widened .ok)), e) (wider (omega arith) (fits-within given)))))),
-    (s .pre .0 .few-terms, s .pre .1 .1 .1 .0))
+    let e = rw (toZ-ofZ w32 _ given) at (c .before .before .before .widened .ensures) in (
+      (
+        good-columns _ (s .pre .0),
+        (
+          labels-columns (live-labels _ _ (s .pre .0) (s .pre .1 .0)),
+          (sides .0, (sides .1, rw (toZ-ofZ w64 (c .before .before .before .widened .result) (sfits-of (c .before .before .before .widened .ok)), e) (wider (omega arith) (fits-within given)))),
+        ),
+      ),
+      (s .pre .0 .few-terms, s .pre .1 .1 .1 .0),
+    )
 
 -- src/lib.rt:357:1
 same-length : tie.Need-same-length

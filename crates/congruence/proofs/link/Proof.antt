@@ -40,10 +40,11 @@ slice-read-to c = search needs
 relabel-requires : tie.Need-relabel-requires
 relabel-requires c κs =
     let s = c .before .before .before .before .before .before .before in
-    let e = rw (toZ-ofZ w64 (s .args .z) (s .fits .z)) at (c .before .before .before .before .distance .ensures) in
-    (s .pre .0,
-    rw (toZ-ofZ w64 (c .before .before .before .before .distance .result) (sfits-of (c .before .before .before .before .distance .ok)), e)
-    (distance-within (s .pre .0) (s .args .a .0) (s .args .z) (s .args .b .0) (s .pre .1 .0) (s .pre .1 .1 .0) (s .pre .1 .1 .1)))
+    let e = rw (toZ-ofZ w64 (s .args .z) (s .fits .z)) at (c .before .before .before .before .distance .ensures) in (
+      s .pre .0,
+      rw (toZ-ofZ w64 (c .before .before .before .before .distance .result) (sfits-of (c .before .before .before .before .distance .ok)), e)
+          (distance-within (s .pre .0) (s .args .a .0) (s .args .z) (s .args .b .0) (s .pre .1 .0) (s .pre .1 .1 .0) (s .pre .1 .1 .1)),
+    )
 
 -- src/lib.rt:63:1
 same-length : tie.Need-same-length

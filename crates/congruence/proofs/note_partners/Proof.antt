@@ -53,11 +53,14 @@ slice-aggregate-set-partners c = search needs
 set-partners-requires : tie.Need-set-partners-requires
 set-partners-requires c κs =
     let s = c .before .before .before .before .before .before .before .before .before .before .before .before in
-    let e = rw (toZ-ofZ w64 (s .args .z) (s .fits .z)) at (c .before .before .before .before .before .before .before .distance .ensures) in
-    ((s .pre .0 .0, (s .pre .0 .1 .0, (s .pre .1 .0, omega (arith, c .before .before .before .before .uses .ensures, c .before .before .before .before .uses .kept .1 .1 .1 .1 .1 .1 .0, s .pre .1 .0)))),
-    (rw (toZ-ofZ w64 (c .before .before .before .before .before .before .before .distance .result) (sfits-of (c .before .before .before .before .before .before .before .distance .ok)), e)
-    (distance-within (s .pre .0 .1 .0) (s .args .a .0) (s .args .z) (s .args .b .0) (s .pre .0 .1 .1 .0) (s .pre .0 .1 .1 .1 .0) (s .pre .0 .1 .1 .1 .1)),
-    s .pre .1 .1))
+    let e = rw (toZ-ofZ w64 (s .args .z) (s .fits .z)) at (c .before .before .before .before .before .before .before .distance .ensures) in (
+      (s .pre .0 .0, (s .pre .0 .1 .0, (s .pre .1 .0, omega (arith, c .before .before .before .before .uses .ensures, c .before .before .before .before .uses .kept .1 .1 .1 .1 .1 .1 .0, s .pre .1 .0)))),
+      (
+        rw (toZ-ofZ w64 (c .before .before .before .before .before .before .before .distance .result) (sfits-of (c .before .before .before .before .before .before .before .distance .ok)), e)
+            (distance-within (s .pre .0 .1 .0) (s .args .a .0) (s .args .z) (s .args .b .0) (s .pre .0 .1 .1 .0) (s .pre .0 .1 .1 .1 .0) (s .pre .0 .1 .1 .1 .1)),
+        s .pre .1 .1,
+      ),
+    )
 
 -- src/lib.rt:281:1
 same-length : tie.Need-same-length
