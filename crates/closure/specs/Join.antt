@@ -22,7 +22,7 @@ pub record Label : Type 0 where
   pub rep : ℕ
   pub off : ℤ
 
-abbrev unlabelled : Label
+abbrev pub unlabelled : Label
 unlabelled = record { rep = 0; off = pos 0 }
 
 -- the labelling of a list, by the terms' numbers
@@ -39,7 +39,7 @@ unfolding own
 length-own t zero = refl
 length-own t (suc n) = ap suc (length-own (suc t) n)
 
-own-at : (t n i : ℕ) → i < n → getD (own t n) i unlabelled ≡ record { rep = t + i; off = pos 0 }
+pub own-at : (t n i : ℕ) → i < n → getD (own t n) i unlabelled ≡ record { rep = t + i; off = pos 0 }
 unfolding own
 own-at t zero i h = absurd (omega arith)
 own-at t (suc n) zero h = let e : t + 0 ≡ t = omega arith in rw e

@@ -1,0 +1,2 @@
+-- What the solver writes, and why it is what paper 01 says.
+pub mod Columns
