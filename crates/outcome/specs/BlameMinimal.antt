@@ -44,7 +44,7 @@ both-without a b k h i e =
     (λ (m : i ≢ k). getD-set-other b k i false false m ∙ h i (sym (getD-set-other a k i false false m) ∙ e))
     (same-or-not i k)
 
-select-all : {A : Type 0} (l : List A) → select (replicate (length l) true) l ≡ l
+pub select-all : {A : Type 0} (l : List A) → select (replicate (length l) true) l ≡ l
 unfolding select
 select-all [] = refl
 select-all (x ∷ l) = ap (λ m. x ∷ m) (select-all l)
@@ -62,7 +62,7 @@ module _ (ts : List Term) (ps : List Proposition) (wf : WellFormed ts (listed ts
       of : {p : Proposition} → In p (select a ps) → In p ps
       of i = let r = select-in a ps i in (r .0, r .1)
 
-  kept-exact : (a : List Bool) → keptContradictory ts ps a ≡ true ↔ Contradiction ts (listed ts (select a ps))
+  pub kept-exact : (a : List Bool) → keptContradictory ts ps a ≡ true ↔ Contradiction ts (listed ts (select a ps))
   unfolding keptContradictory
   kept-exact a =
       contradiction-exact ts (listed ts (select a ps)) (well-formed-less ts (listed ts (select a ps)) (listed ts ps) (some-of a) wf)

@@ -1,2 +1,3 @@
 -- What the solver writes, and why it is what paper 01 says.
 pub mod Columns
+pub mod Blaming
