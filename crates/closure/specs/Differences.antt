@@ -163,10 +163,10 @@ module _ (ts : List Term) (G : Given) (wf : WellFormed ts G) (F : Facts) (ls : L
       (or-cases (apart P (F .apart) t1 t2) (otherOffset P t1 z t2 || moved P (F .unequal) t1 z t2) e)
 
   -- what the test of two dereferences says
-  record Reads (t1 : ℕ) (z : ℤ) (t2 : ℕ) (x y : Deref) : Type 0 where
-    inner1 : x .inner ≡ t1
-    inner2 : y .inner ≡ t2
-    offset : z ≡ y .offset -ℤ x .offset
+  pub record Reads (t1 : ℕ) (z : ℤ) (t2 : ℕ) (x y : Deref) : Type 0 where
+    pub inner1 : x .inner ≡ t1
+    pub inner2 : y .inner ≡ t2
+    pub offset : z ≡ y .offset -ℤ x .offset
 
   reads-true : (t1 : ℕ) (z : ℤ) (t2 : ℕ) (x y : Deref) → reads P t1 z t2 x y ≡ true → Reads t1 z t2 x y
   unfolding reads
@@ -183,13 +183,13 @@ module _ (ts : List Term) (G : Given) (wf : WellFormed ts G) (F : Facts) (ls : L
   ds = derefs ts
 
   -- the pair of dereferences by which k + 1 steps show t1 different from z + t2
-  record Inverse (k t1 : ℕ) (z : ℤ) (t2 : ℕ) : Type 0 where
-    x : Deref
-    y : Deref
-    in-x : In x ds
-    in-y : In y ds
-    reading : Reads t1 z t2 x y
-    shown : differentIn P F ds k (x .term) (pos 0) (y .term) ≡ true
+  pub record Inverse (k t1 : ℕ) (z : ℤ) (t2 : ℕ) : Type 0 where
+    pub x : Deref
+    pub y : Deref
+    pub in-x : In x ds
+    pub in-y : In y ds
+    pub reading : Reads t1 z t2 x y
+    pub shown : differentIn P F ds k (x .term) (pos 0) (y .term) ≡ true
 
   abbrev inverse : ℕ → ℕ → ℤ → ℕ → Bool
   inverse k t1 z t2 = any (λ x. any (λ y. let r = differentIn P F ds k (x .term) (pos 0) (y .term) in reads P t1 z t2 x y && r) ds) ds
@@ -207,7 +207,7 @@ module _ (ts : List Term) (G : Given) (wf : WellFormed ts G) (F : Facts) (ls : L
       (any-in (λ y. reads P t1 z t2 (i .x) y && differentIn P F ds k (i .x .term) (pos 0) (y .term)) ds (i .y) (i .in-y) (both-true _ _ (true-reads t1 z t2 (i .x) (i .y) (i .reading)) (i .shown)))
 
   -- the two ways in which k steps show a difference
-  different-cases :
+  pub different-cases :
       (A : Type 0) (k t1 : ℕ) (z : ℤ) (t2 : ℕ) →
       differentIn P F ds (suc k) t1 z t2 ≡ true →
       (differentBase P F t1 z t2 ≡ true → A) →
@@ -217,7 +217,7 @@ module _ (ts : List Term) (G : Given) (wf : WellFormed ts G) (F : Facts) (ls : L
   different-cases A k t1 z t2 e f g =
       ⊎-elim f (λ h. g (inverse-true k t1 z t2 h)) (or-cases (differentBase P F t1 z t2) (inverse k t1 z t2) e)
 
-  by-base : (k t1 : ℕ) (z : ℤ) (t2 : ℕ) → differentBase P F t1 z t2 ≡ true → differentIn P F ds k t1 z t2 ≡ true
+  pub by-base : (k t1 : ℕ) (z : ℤ) (t2 : ℕ) → differentBase P F t1 z t2 ≡ true → differentIn P F ds k t1 z t2 ≡ true
   unfolding differentIn
   by-base zero t1 z t2 e = e
   by-base (suc k) t1 z t2 e = or-first _ _ e
@@ -231,7 +231,7 @@ module _ (ts : List Term) (G : Given) (wf : WellFormed ts G) (F : Facts) (ls : L
   at-zero t1 z t2 e = e
 
   -- what the steps show is derived
-  shown-different : (k t1 : ℕ) (z : ℤ) (t2 : ℕ) → t1 < length ts → t2 < length ts → differentIn P F ds k t1 z t2 ≡ true → Different ts G t1 z t2
+  pub shown-different : (k t1 : ℕ) (z : ℤ) (t2 : ℕ) → t1 < length ts → t2 < length ts → differentIn P F ds k t1 z t2 ≡ true → Different ts G t1 z t2
   shown-different zero t1 z t2 h1 h2 e = base-true t1 z t2 h1 h2 (at-zero t1 z t2 e)
   shown-different (suc k) t1 z t2 h1 h2 e =
       different-cases (Different ts G t1 z t2) k t1 z t2 e (base-true t1 z t2 h1 h2)

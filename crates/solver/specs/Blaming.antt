@@ -61,20 +61,20 @@ module _ (T : Tables) (good : Good T) where
       ext-getD false (keptOf T (set marks p 0)) (set (keptOf T marks) p false)
       (length-kept (set marks p 0) ∙ sym (length-set (keptOf T marks) p false ∙ length-kept marks))
       (λ k b.
-          let hk : k < T .propositions = omega (arith, length-kept (set marks p 0)) in
-          kept-at (set marks p 0) k hk
-          ∙ ⊎-elim
-          (λ (e : k ≡ p). rw (e, getD-set-same marks p 0 0 (omega arith)) (sym (getD-set-same (keptOf T marks) p false false (omega (arith, length-kept marks)))))
-          (λ (m : k ≢ p). rw (getD-set-other marks p k 0 0 m) (sym (getD-set-other (keptOf T marks) p k false false m ∙ kept-at marks k hk)))
-          (same-or-not k p))
+      let hk : k < T .propositions = omega (arith, length-kept (set marks p 0)) in
+      kept-at (set marks p 0) k hk
+      ∙ ⊎-elim
+      (λ (e : k ≡ p). rw (e, getD-set-same marks p 0 0 (omega arith)) (sym (getD-set-same (keptOf T marks) p false false (omega (arith, length-kept marks)))))
+      (λ (m : k ≢ p). rw (getD-set-other marks p k 0 0 m) (sym (getD-set-other (keptOf T marks) p k false false m ∙ kept-at marks k hk)))
+      (same-or-not k p))
 
   start-kept : (marks : List ℕ) → AllKept marks (T .propositions) → keptOf T marks ≡ replicate (length (propositionsOf T)) true
   start-kept marks A =
       ext-getD false (keptOf T marks) (replicate (length (propositionsOf T)) true)
       (length-kept marks ∙ sym (length-replicate (length (propositionsOf T)) true ∙ length-propositions T good))
       (λ k b.
-          let h : k < T .propositions = omega (arith, length-kept marks) in
-          kept-at marks k h ∙ rw (A k h) (sym (getD-replicate (length (propositionsOf T)) k true false (omega (arith, length-propositions T good)))))
+      let h : k < T .propositions = omega (arith, length-kept marks) in
+      kept-at marks k h ∙ rw (A k h) (sym (getD-replicate (length (propositionsOf T)) k true false (omega (arith, length-propositions T good)))))
 
   pub all-kept : (marks : List ℕ) → AllKept marks (T .propositions) → select (keptOf T marks) (propositionsOf T) ≡ propositionsOf T
   all-kept marks A = rw (start-kept marks A) (select-all (propositionsOf T))
@@ -82,12 +82,13 @@ module _ (T : Tables) (good : Good T) where
   pub trying-start : (marks : List ℕ) → AllKept marks (T .propositions) → Trying T marks marks (T .propositions)
   unfolding blame
   trying-start marks A = record {
-      within = omega arith;
-      long = refl;
-      beyond = λ j h. refl;
-      bits = λ j h. rw (A j h);
-      ones = A;
-      rest = rw (start-kept marks A, length-propositions T good) }
+    within = omega arith;
+    long = refl;
+    beyond = λ j h. refl;
+    bits = λ j h. rw (A j h);
+    ones = A;
+    rest = rw (start-kept marks A, length-propositions T good);
+  }
 
   module _ (marks0 marks : List ℕ) (k : ℕ) (t : Trying T marks0 marks (suc k)) (l : T .propositions ≤ length marks) where
     below : k < T .propositions
@@ -124,12 +125,13 @@ module _ (T : Tables) (good : Good T) where
     trying-next =
         let b = keptContradictory (termsOf T) (propositionsOf T) (keptOf T (set marks k 0)) in
         record {
-            within = omega (arith, below);
-            long = step-long b;
-            beyond = λ j h. step-other b j (λ e. omega (arith, below)) ∙ t .beyond j h;
-            bits = step-bits b;
-            ones = λ j h. step-other b j (λ e. omega arith) ∙ t .ones j (omega arith);
-            rest = step-rest b refl }
+          within = omega (arith, below);
+          long = step-long b;
+          beyond = λ j h. step-other b j (λ e. omega (arith, below)) ∙ t .beyond j h;
+          bits = step-bits b;
+          ones = λ j h. step-other b j (λ e. omega arith) ∙ t .ones j (omega arith);
+          rest = step-rest b refl;
+        }
 
   -- the marks at the end
   pub trying-end : (marks0 marks : List ℕ) → T .propositions ≤ length marks0 → Trying T marks0 marks 0 → marks ≡ overwrite (map bitValue (blame (termsOf T) (propositionsOf T))) marks0
@@ -139,11 +141,12 @@ module _ (T : Tables) (good : Good T) where
       let long : length (map bitValue B) ≡ T .propositions = length-map B bitValue ∙ (ap length (sym (t .rest)) ∙ length-kept marks) in
       written-end 0 marks0 (map bitValue B) (T .propositions) marks (sym long) (omega (arith, long))
       (record {
-          within = omega (arith, long);
-          long = t .long;
-          done = λ k h.
-              t .bits k h ∙ (ap bitValue (sym (kept-at marks k h) ∙ ap (λ (x : List Bool). getD x k false) (t .rest)) ∙ sym (item-map bitValue B k 0 (getD-item B k false (omega (arith, long, length-map B bitValue)))));
-          same = λ k h. t .beyond k h })
+        within = omega (arith, long);
+        long = t .long;
+        done = λ k h.
+            t .bits k h ∙ (ap bitValue (sym (kept-at marks k h) ∙ ap (λ (x : List Bool). getD x k false) (t .rest)) ∙ sym (item-map bitValue B k 0 (getD-item B k false (omega (arith, long, length-map B bitValue)))));
+        same = λ k h. t .beyond k h;
+      })
 
 -- a turn of the loop, with the memory that the verdict works in
 pub record Turn (T : Tables) (marks0 reps0 : List ℕ) (offs0 : List ℤ) (partners0 marks reps : List ℕ) (offs : List ℤ) (partners : List ℕ) (k : ℕ) : Type 0 where

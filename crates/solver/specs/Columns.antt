@@ -38,13 +38,14 @@ module _ {A : Type 0} (d : A) (old new : List A) where
 
   pub written-next : (t : ℕ) (cells : List A) (a : A) → Written t cells → t < length new → length new ≤ length old → a ≡ getD new t d → Written (t + 1) (set cells t a)
   written-next t cells a W h l e = record {
-      within = omega arith;
-      long = length-set cells t a ∙ W .long;
-      done = λ k b. ⊎-elim
-          (λ (s : k ≡ t). rw s (getD-set-same cells t a d (omega (arith, W .long)) ∙ e))
-          (λ (m : k ≢ t). getD-set-other cells t k a d m ∙ W .done k (omega arith))
-          (same-or-not k t);
-      same = λ k b. getD-set-other cells t k a d (λ s. omega arith) ∙ W .same k (omega arith) }
+    within = omega arith;
+    long = length-set cells t a ∙ W .long;
+    done = λ k b. ⊎-elim
+        (λ (s : k ≡ t). rw s (getD-set-same cells t a d (omega (arith, W .long)) ∙ e))
+        (λ (m : k ≢ t). getD-set-other cells t k a d m ∙ W .done k (omega arith))
+        (same-or-not k t);
+    same = λ k b. getD-set-other cells t k a d (λ s. omega arith) ∙ W .same k (omega arith);
+  }
 
   -- all cells of `new` are written
   pub written-all : (cells : List A) → length new ≤ length old → Written (length new) cells → cells ≡ overwrite new old

@@ -1,3 +1,4 @@
 -- What the solver writes, and why it is what paper 01 says.
 pub mod Columns
 pub mod Blaming
+pub mod Results

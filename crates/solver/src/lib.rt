@@ -2,7 +2,6 @@
 
 use congruence::is_consistent;
 use types::PropositionNumber;
-
 ghost use mathlib.Core.Path.{_≡_};
 ghost use mathlib.Core.List.{map};
 ghost use Prim.Native.Nat.{ℕ, _+_, _≤_, _<_};
@@ -25,7 +24,13 @@ fn fill(cells: &mut [u8], count: usize, value: u8)
 }
 
 // Copies the labels of n terms.
-fn copy_labels(n: usize, reps: &[u32], offs: &[i64], representatives: &mut [u32], offsets: &mut [i64])
+fn copy_labels(
+    n: usize,
+    reps: &[u32],
+    offs: &[i64],
+    representatives: &mut [u32],
+    offsets: &mut [i64],
+)
     requires { ⌜ (n ≤ length (now reps)) × ((n ≤ length (now offs)) × ((n ≤ length (now representatives)) × (n ≤ length (now offsets)))) ⌝ }
     ensures { λ _. ⌜ (now (representatives .exit) ≡ overwrite (take n (now (reps .entry))) (now (representatives .entry))) × (now (offsets .exit) ≡ overwrite (take n (now (offs .entry))) (now (offsets .entry))) ⌝ }
 {
@@ -47,7 +52,22 @@ fn own_labels(n: usize, representatives: &mut [u32], offsets: &mut [i64])
 }
 
 // Drops proposition p, if those kept without it are contradictory.
-fn try_drop(n: usize, kinds: &[u8], numbers: &[u32], zs: &[i32], m: usize, pkinds: &[u8], lefts: &[u32], pzs: &[i32], rights: &[u32], marks: &mut [u8], reps: &mut [u32], offs: &mut [i64], partners: &mut [u32], p: PropositionNumber)
+fn try_drop(
+    n: usize,
+    kinds: &[u8],
+    numbers: &[u32],
+    zs: &[i32],
+    m: usize,
+    pkinds: &[u8],
+    lefts: &[u32],
+    pzs: &[i32],
+    rights: &[u32],
+    marks: &mut [u8],
+    reps: &mut [u32],
+    offs: &mut [i64],
+    partners: &mut [u32],
+    p: PropositionNumber,
+)
     requires { ⌜ Good (setOf n (now kinds) (now numbers) (now zs) m (now pkinds) (now lefts) (now pzs) (now rights)) ⌝ }
     requires { ⌜ (n ≤ length (now reps)) × ((n ≤ length (now offs)) × (n ≤ length (now partners))) ⌝ }
     requires { ⌜ (m ≤ length (now marks)) × ((p .0 < m) × (getD (now marks) (p .0) 0 ≡ 1)) ⌝ }
@@ -55,14 +75,42 @@ fn try_drop(n: usize, kinds: &[u8], numbers: &[u32], zs: &[i32], m: usize, pkind
 {
     let k = p.0;
     marks[k] = 0;
-    if !is_consistent(n, kinds, numbers, zs, m, pkinds, lefts, pzs, rights, marks, reps, offs, partners) {
+    if !is_consistent(
+        n,
+        kinds,
+        numbers,
+        zs,
+        m,
+        pkinds,
+        lefts,
+        pzs,
+        rights,
+        marks,
+        reps,
+        offs,
+        partners,
+    ) {
         return;
     }
     marks[k] = 1;
 }
 
 // Marks the blamed propositions of a contradictory set: from the highest number down, each that can be dropped is.
-fn blame_marks(n: usize, kinds: &[u8], numbers: &[u32], zs: &[i32], m: usize, pkinds: &[u8], lefts: &[u32], pzs: &[i32], rights: &[u32], marks: &mut [u8], reps: &mut [u32], offs: &mut [i64], partners: &mut [u32])
+fn blame_marks(
+    n: usize,
+    kinds: &[u8],
+    numbers: &[u32],
+    zs: &[i32],
+    m: usize,
+    pkinds: &[u8],
+    lefts: &[u32],
+    pzs: &[i32],
+    rights: &[u32],
+    marks: &mut [u8],
+    reps: &mut [u32],
+    offs: &mut [i64],
+    partners: &mut [u32],
+)
     requires { ⌜ Good (setOf n (now kinds) (now numbers) (now zs) m (now pkinds) (now lefts) (now pzs) (now rights)) ⌝ }
     requires { ⌜ (n ≤ length (now reps)) × ((n ≤ length (now offs)) × (n ≤ length (now partners))) ⌝ }
     requires { ⌜ (m ≤ length (now marks)) × AllKept (now marks) m ⌝ }
@@ -71,6 +119,21 @@ fn blame_marks(n: usize, kinds: &[u8], numbers: &[u32], zs: &[i32], m: usize, pk
     let mut k = m;
     while 0 < k {
         k -= 1;
-        try_drop(n, kinds, numbers, zs, m, pkinds, lefts, pzs, rights, marks, reps, offs, partners, PropositionNumber(k));
+        try_drop(
+            n,
+            kinds,
+            numbers,
+            zs,
+            m,
+            pkinds,
+            lefts,
+            pzs,
+            rights,
+            marks,
+            reps,
+            offs,
+            partners,
+            PropositionNumber(k),
+        );
     }
 }

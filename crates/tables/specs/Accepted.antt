@@ -28,7 +28,7 @@ pub orElse-none {ℓ} : {A : Type ℓ} (a b : Option A) → orElse a b ≡ none 
 orElse-none none b e = (refl, e)
 orElse-none (some x) b e = (e, cc)
 
-refuseIf-none : (b : Bool) (r : Refusal) → refuseIf b r ≡ none → b ≡ false
+pub refuseIf-none : (b : Bool) (r : Refusal) → refuseIf b r ≡ none → b ≡ false
 refuseIf-none true r e = cc
 refuseIf-none false r e = refl
 
@@ -36,7 +36,7 @@ faultIf-none : (b : Bool) (r : Refusal) (k : ℕ) → faultIf b r k ≡ none →
 faultIf-none true r k e = cc
 faultIf-none false r k e = refl
 
-malformed-none : {A : Type 0} (o : Option A) → malformed o ≡ none → (a : A) × (o ≡ some a)
+pub malformed-none : {A : Type 0} (o : Option A) → malformed o ≡ none → (a : A) × (o ≡ some a)
 malformed-none none e = let z : _≡_ {A = ℕ} 0 1 = cc in absurd (omega arith)
 malformed-none (some a) e = (a, refl)
 
@@ -61,7 +61,7 @@ default-some : {A : Type 0} (d : A) (o : Option A) (x a : A) → o ≡ some a �
 default-some d none x a e f = cc
 default-some d (some b) x a e f = ap some (sym f)
 
-from-zero : {A : Type 0} (f : ℕ → A) (n k : ℕ) (d : A) → k < n → getD (tabulate f 0 n) k d ≡ f k
+pub from-zero : {A : Type 0} (f : ℕ → A) (n k : ℕ) (d : A) → k < n → getD (tabulate f 0 n) k d ≡ f k
 from-zero f n k d h = let s : 0 + k ≡ k = omega arith in rw s at (tabulate-at f 0 n k d h)
 
 -- accepted terms and propositions, in columns that are long enough

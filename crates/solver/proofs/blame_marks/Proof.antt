@@ -31,10 +31,13 @@ try-drop-requires : tie.Need-try-drop-requires Inv-loop μ-loop
 try-drop-requires c κs =
     let s = c .before .before .before .before .before .before .before .before .before .before .before .before .before .before in
     let l = c .before .before .before .before .before in
-    let i = l .loop .inv in
-    (s .pre .0,
-    ((rw (i .reps-same) (s .pre .1 .0 .0), (rw (i .offs-same) (s .pre .1 .0 .1 .0), rw (i .partners-same) (s .pre .1 .0 .1 .1))),
-    (rw (i .trying .long) (s .pre .1 .1 .0), (omega (arith, i .trying .within, c .before .before .before .before .loop-test .taken), i .trying .ones (l .loop .k - 1) (omega (arith, c .before .before .before .before .loop-test .taken))))))
+    let i = l .loop .inv in (
+      s .pre .0,
+      (
+        (rw (i .reps-same) (s .pre .1 .0 .0), (rw (i .offs-same) (s .pre .1 .0 .1 .0), rw (i .partners-same) (s .pre .1 .0 .1 .1))),
+        (rw (i .trying .long) (s .pre .1 .1 .0), (omega (arith, i .trying .within, c .before .before .before .before .loop-test .taken), i .trying .ones (l .loop .k - 1) (omega (arith, c .before .before .before .before .loop-test .taken)))),
+      ),
+    )
 
 -- src/lib.rt:72:5
 loop-less : tie.Need-loop-less Inv-loop μ-loop
@@ -48,10 +51,11 @@ loop-again c =
     let i = l .loop .inv in
     let e : l .loop .k ≡ suc (l .loop .k - 1) = omega (arith, c .before .before .before .before .before .before .before .before .before .before .before .before .loop-test .taken) in
     record {
-        trying = rw (c .before .before .before .before .before .before .before .try-drop .ensures) (trying-next _ (s .pre .0) (s .args .marks .now) (l .loop .marks) (l .loop .k - 1) (rw e at (i .trying)) (rw (i .trying .long) (s .pre .1 .1 .0)));
-        reps-same = c .before .before .before .before .before .before .before .try-drop .kept .1 .1 .1 .1 .1 .1 .1 .1 .1 .1 .0 ∙ i .reps-same;
-        offs-same = c .before .before .before .before .before .before .before .try-drop .kept .1 .1 .1 .1 .1 .1 .1 .1 .1 .1 .1 .0 ∙ i .offs-same;
-        partners-same = c .before .before .before .before .before .before .before .try-drop .kept .1 .1 .1 .1 .1 .1 .1 .1 .1 .1 .1 .1 .0 ∙ i .partners-same }
+      trying = rw (c .before .before .before .before .before .before .before .try-drop .ensures) (trying-next _ (s .pre .0) (s .args .marks .now) (l .loop .marks) (l .loop .k - 1) (rw e at (i .trying)) (rw (i .trying .long) (s .pre .1 .1 .0)));
+      reps-same = c .before .before .before .before .before .before .before .try-drop .kept .1 .1 .1 .1 .1 .1 .1 .1 .1 .1 .0 ∙ i .reps-same;
+      offs-same = c .before .before .before .before .before .before .before .try-drop .kept .1 .1 .1 .1 .1 .1 .1 .1 .1 .1 .1 .0 ∙ i .offs-same;
+      partners-same = c .before .before .before .before .before .before .before .try-drop .kept .1 .1 .1 .1 .1 .1 .1 .1 .1 .1 .1 .1 .0 ∙ i .partners-same;
+    }
 
 -- src/lib.rt:65:1
 same-length : tie.Need-same-length Inv-loop μ-loop

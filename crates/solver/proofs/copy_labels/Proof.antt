@@ -72,10 +72,11 @@ loop-again c =
     let s = c .before .before .before .before in
     let h = c .before .before .loop-test .taken in
     let a = length-take-le (s .args .n) (s .args .reps .now) (s .pre .0) in
-    let b = length-take-le (s .args .n) (s .args .offs .now) (s .pre .1 .0) in
-    (written-next _ _ _ (l .loop .t) _ _ (l .loop .inv .0) (omega (arith, a)) (omega (arith, a, s .pre)) (sym (getD-take (s .args .n) (s .args .reps .now) (l .loop .t) 0 h)),
-    written-next _ _ _ (l .loop .t) _ _ (l .loop .inv .1) (omega (arith, b)) (omega (arith, b, s .pre))
-    (toZ-ofZ w64 _ (sfits-of {z = getD (s .args .offs .now) (l .loop .t) (pos 0)} (c .offsets .given)) ∙ sym (getD-take (s .args .n) (s .args .offs .now) (l .loop .t) (pos 0) h)))
+    let b = length-take-le (s .args .n) (s .args .offs .now) (s .pre .1 .0) in (
+      written-next _ _ _ (l .loop .t) _ _ (l .loop .inv .0) (omega (arith, a)) (omega (arith, a, s .pre)) (sym (getD-take (s .args .n) (s .args .reps .now) (l .loop .t) 0 h)),
+      written-next _ _ _ (l .loop .t) _ _ (l .loop .inv .1) (omega (arith, b)) (omega (arith, b, s .pre))
+          (toZ-ofZ w64 _ (sfits-of {z = getD (s .args .offs .now) (l .loop .t) (pos 0)} (c .offsets .given)) ∙ sym (getD-take (s .args .n) (s .args .offs .now) (l .loop .t) (pos 0) h)),
+    )
 
 -- src/lib.rt:26:1
 same-length : tie.Need-same-length Inv-loop μ-loop
@@ -91,9 +92,10 @@ returns c =
     let l = c .before in
     let s = c .before .before in
     let a = length-take-le (s .args .n) (s .args .reps .now) (s .pre .0) in
-    let b = length-take-le (s .args .n) (s .args .offs .now) (s .pre .1 .0) in
-    (written-end 0 _ _ (l .loop .t) _ (omega (arith, a, l .loop .inv .0 .within, c .loop-test .left)) (omega (arith, a, s .pre)) (l .loop .inv .0),
-    written-end (pos 0) _ _ (l .loop .t) _ (omega (arith, b, l .loop .inv .1 .within, c .loop-test .left)) (omega (arith, b, s .pre)) (l .loop .inv .1))
+    let b = length-take-le (s .args .n) (s .args .offs .now) (s .pre .1 .0) in (
+      written-end 0 _ _ (l .loop .t) _ (omega (arith, a, l .loop .inv .0 .within, c .loop-test .left)) (omega (arith, a, s .pre)) (l .loop .inv .0),
+      written-end (pos 0) _ _ (l .loop .t) _ (omega (arith, b, l .loop .inv .1 .within, c .loop-test .left)) (omega (arith, b, s .pre)) (l .loop .inv .1),
+    )
 
 pub copy-labels-spec : {M : Type 1} → statement M
 copy-labels-spec =

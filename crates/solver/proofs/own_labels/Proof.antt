@@ -55,9 +55,10 @@ loop-again c =
     let s = c .before .before in
     let h = c .loop-test .taken in
     let a = length-own-reps (s .args .n) in
-    let b = length-own-offs (s .args .n) in
-    (written-next _ _ _ (l .loop .t) _ _ (l .loop .inv .0) (omega (arith, a)) (omega (arith, a, s .pre)) (sym (own-rep (s .args .n) (l .loop .t) h)),
-    written-next _ _ _ (l .loop .t) _ _ (l .loop .inv .1) (omega (arith, b)) (omega (arith, b, s .pre)) (sym (own-off (s .args .n) (l .loop .t) h)))
+    let b = length-own-offs (s .args .n) in (
+      written-next _ _ _ (l .loop .t) _ _ (l .loop .inv .0) (omega (arith, a)) (omega (arith, a, s .pre)) (sym (own-rep (s .args .n) (l .loop .t) h)),
+      written-next _ _ _ (l .loop .t) _ _ (l .loop .inv .1) (omega (arith, b)) (omega (arith, b, s .pre)) (sym (own-off (s .args .n) (l .loop .t) h)),
+    )
 
 -- src/lib.rt:37:1
 same-length : tie.Need-same-length Inv-loop μ-loop
@@ -73,9 +74,10 @@ returns c =
     let l = c .before in
     let s = c .before .before in
     let a = length-own-reps (s .args .n) in
-    let b = length-own-offs (s .args .n) in
-    (written-end 0 _ _ (l .loop .t) _ (omega (arith, a, l .loop .inv .0 .within, c .loop-test .left)) (omega (arith, a, s .pre)) (l .loop .inv .0),
-    written-end (pos 0) _ _ (l .loop .t) _ (omega (arith, b, l .loop .inv .1 .within, c .loop-test .left)) (omega (arith, b, s .pre)) (l .loop .inv .1))
+    let b = length-own-offs (s .args .n) in (
+      written-end 0 _ _ (l .loop .t) _ (omega (arith, a, l .loop .inv .0 .within, c .loop-test .left)) (omega (arith, a, s .pre)) (l .loop .inv .0),
+      written-end (pos 0) _ _ (l .loop .t) _ (omega (arith, b, l .loop .inv .1 .within, c .loop-test .left)) (omega (arith, b, s .pre)) (l .loop .inv .1),
+    )
 
 pub own-labels-spec : {M : Type 1} → statement M
 own-labels-spec =
