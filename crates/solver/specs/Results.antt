@@ -29,8 +29,10 @@ use Rattle.closure.specs.Verdict.{holds, holds-true, true-holds, contradictory,
 use Rattle.closure.specs.Differences.{different, different-exact}
 use Rattle.outcome.specs.PairBits.{pairBit, pairBits, pairBytes}
 use Rattle.outcome.specs.Outcome.{Outcome, answer, satisfiable, contradiction, outcome}
-use Rattle.tables.specs.Call.{Tables, Memory, termsOf, propositionsOf, overwrite}
-use Rattle.tables.specs.Accepted.{Good, length-terms, length-propositions, accepted-well-formed}
+use Rattle.tables.specs.Call.{Tables, Memory, termsOf, propositionsOf, questionsOf, overwrite}
+use Rattle.tables.specs.Accepted.{Good, GoodQuestions, length-terms, length-propositions, accepted-well-formed, accepted-questions}
+use Rattle.differences.specs.Base.{sides, Ready}
+use Rattle.differences.specs.Answers.{asking, Answerable, written-tells}
 use Rattle.congruence.specs.Live.{kept, keptOf, Live, live-labels}
 use Rattle.congruence.specs.Joining.{labels-columns, Columns}
 use Rattle.congruence.specs.Deciding as deciding
@@ -56,8 +58,174 @@ pairBits-same f g n h =
     number : (ℕ → Bool) → ℕ → ℕ
     number p k = Rattle.outcome.specs.PairBits.number (λ b. p (8 * k + b)) 8
 
+    positive : (n : ℕ) {i : ℕ} → i < n * n → 0 < n
+    positive zero l = absurd (omega arith)
+    positive (suc n) l = omega arith
+
     bit : (i : ℕ) (b : Bool) → ltb i (n * n) ≡ b → (ltb i (n * n) && f (i / n) (i % n)) ≡ (ltb i (n * n) && g (i / n) (i % n))
     bit i false e = rw e
     bit i true e =
         let l = ltb-true i (n * n) e in
-        rw e (h (i / n) (i % n) ? ?)
+        let p : 0 < n = positive n l in
+        rw e (h (i / n) (i % n) (div-lt-iff-lt-mul p .1 l) (mod-lt i p))
+
+-- labels that are the closure's, of a set without contradiction
+pub record Consistent (T : Tables) (reps : List ℕ) (offs : List ℤ) : Type 0 where
+  pub columns : Columns (T .terms) reps offs
+  pub canonical : Canonical (termsOf T) (listed (termsOf T) (propositionsOf T)) (view reps offs)
+  pub no-contradiction : contradictory (termsOf T) (facts (termsOf T) (propositionsOf T)) ≡ false
+
+-- accepted tables, with room for the answers
+pub record Asked (T : Tables) (q : ℕ) (lefts : List ℕ) (zs : List ℤ) (rights : List ℕ) (r : List ℕ) (o : List ℤ) (m p a : List ℕ) : Type 0 where
+  pub good : Good T
+  pub questions : GoodQuestions (asking T q lefts zs rights)
+  pub reps-room : T .terms ≤ length r
+  pub offs-room : T .terms ≤ length o
+  pub marks-room : T .propositions ≤ length m
+  pub pairs-room : pairBytes (T .terms) ≤ length p
+  pub answers-room : q ≤ length a
+
+-- the outcome of the set with those questions
+abbrev pub questionList : ℕ → List ℕ → List ℤ → List ℕ → List Comparison
+questionList q lefts zs rights = tabulate (sides lefts zs rights) 0 q
+
+-- the five columns afterwards
+pub record Leaves (O : Outcome) (r0 : List ℕ) (o0 : List ℤ) (m0 p0 a0 : List ℕ) (r : List ℕ) (o : List ℤ) (m p a : List ℕ) : Type 0 where
+  pub representatives : r ≡ overwrite (O .representatives) r0
+  pub offsets : o ≡ overwrite (O .offsets) o0
+  pub marks : m ≡ overwrite (O .marks) m0
+  pub pairs : p ≡ overwrite (O .pairs) p0
+  pub answers : a ≡ overwrite (O .answers) a0
+
+module _ (T : Tables) (good : Good T) where
+  abbrev ts : List Term
+  ts = termsOf T
+
+  abbrev ps : List Proposition
+  ps = propositionsOf T
+
+  abbrev F : Facts
+  F = facts ts ps
+
+  wf : WellFormed ts (listed ts ps)
+  wf = accepted-well-formed T good
+
+  -- with all propositions kept, the given facts are those listed
+  kept-listed : (marks : List ℕ) → AllKept marks (T .propositions) → kept T marks ≡ listed ts ps
+  kept-listed marks A = ap (λ l. listed ts l) (all-kept T good marks A)
+
+  no-true : (P : Placement) → Assignment ts (listed ts ps) P → contradictory ts F ≡ false
+  no-true P A = go (contradictory ts F) refl
+    where
+      go : (b : Bool) → contradictory ts F ≡ b → b ≡ false
+      go true e = absurd (no-contradiction ts (listed ts ps) P A (contradiction-exact ts (listed ts ps) wf F (lists ts ps) .0 e))
+      go false e = refl
+
+  pub when-consistent : {marks reps : List ℕ} {offs : List ℤ} → AllKept marks (T .propositions) → Decided T marks reps offs true → Consistent T reps offs
+  when-consistent {marks} {reps} {offs} A (deciding.consistent L M) =
+      let same = kept-listed marks A in
+      let M2 = rw same at M in
+      record {
+          columns = labels-columns (live-labels T marks good L);
+          canonical = record { sound = rw same at (L .live .state .sound); respects = M2 .respects; lowest = L .live .state .lowest };
+          no-contradiction = no-true (view reps offs) M2 }
+
+  pub when-contradictory : {marks reps : List ℕ} {offs : List ℤ} → AllKept marks (T .propositions) → Decided T marks reps offs false → contradictory ts F ≡ true
+  when-contradictory {marks} A (deciding.contradictory c) =
+      contradiction-exact ts (listed ts ps) wf F (lists ts ps) .1 (rw (kept-listed marks A) at c)
+
+  module _ (reps : List ℕ) (offs : List ℤ) (C : Consistent T reps offs) where
+    abbrev P : Placement
+    P = view reps offs
+
+    abbrev l : List Label
+    l = closure ts F
+
+    long : length l ≡ T .terms
+    long = length-closure ts (listed ts ps) wf F (lists ts ps) ∙ length-terms T
+
+    computed : (t : ℕ) → t < T .terms → (P .block t ≡ placed l .block t) × (P .position t ≡ placed l .position t)
+    computed t h = canonical-computed ts (listed ts ps) wf F (lists ts ps) (C .no-contradiction) P (C .canonical) t (omega (arith, length-terms T))
+
+    -- the labels are those of the closure
+    pub reps-computed : take (T .terms) reps ≡ map (λ x. x .rep) l
+    reps-computed =
+        let n = length-take-le (T .terms) reps (C .columns .reps-long) in
+        ext-getD 0 (take (T .terms) reps) (map (λ x. x .rep) l) (n ∙ sym (length-map l _ ∙ long))
+        (λ t h.
+            let b : t < T .terms = omega arith in
+            getD-take (T .terms) reps t 0 b ∙ (computed t b .0 ∙ sym (rep-at l t (omega (arith, long)))))
+
+    pub offs-computed : take (T .terms) offs ≡ map (λ x. x .off) l
+    offs-computed =
+        let n = length-take-le (T .terms) offs (C .columns .offs-long) in
+        ext-getD (pos 0) (take (T .terms) offs) (map (λ x. x .off) l) (n ∙ sym (length-map l _ ∙ long))
+        (λ t h.
+            let b : t < T .terms = omega arith in
+            getD-take (T .terms) offs t (pos 0) b ∙ (computed t b .1 ∙ sym (off-at l t (omega (arith, long)))))
+
+    canonical-closure : Canonical ts (listed ts ps) (placed l)
+    canonical-closure = closure-canonical ts (listed ts ps) wf F (lists ts ps) (C .no-contradiction)
+
+    different-same : (t1 : ℕ) (z : ℤ) (t2 : ℕ) → t1 < T .terms → t2 < T .terms → different ts F P t1 z t2 ≡ different ts F (placed l) t1 z t2
+    different-same t1 z t2 h1 h2 =
+        let a : t1 < length ts = omega (arith, length-terms T) in
+        let b : t2 < length ts = omega (arith, length-terms T) in
+        same-truth _ _ (different-exact ts (listed ts ps) wf F (lists ts ps) P (C .canonical) a b) (different-exact ts (listed ts ps) wf F (lists ts ps) (placed l) canonical-closure a b)
+
+    pub pairs-computed : pairBits (λ i j. different ts F P i (pos 0) j) (T .terms) ≡ pairBits (λ i j. different ts F (placed l) i (pos 0) j) (length ts)
+    pairs-computed =
+        rw (length-terms T) (pairBits-same (λ i j. different ts F P i (pos 0) j) (λ i j. different ts F (placed l) i (pos 0) j) (T .terms) (λ i j hi hj. different-same i (pos 0) j hi hj))
+
+    holds-same : (c : Comparison) → c .left < T .terms → c .right < T .terms → holds P c ≡ holds (placed l) c
+    holds-same c h1 h2 =
+        let a : c .left < length ts = omega (arith, length-terms T) in
+        let b : c .right < length ts = omega (arith, length-terms T) in
+        let p = canonical-equal ts (listed ts ps) P (C .canonical) a b in
+        let q = canonical-equal ts (listed ts ps) (placed l) canonical-closure a b in
+        same-truth _ _ (λ e. p .1 (holds-true P c e), λ e. true-holds P c (p .0 e)) (λ e. q .1 (holds-true (placed l) c e), λ e. true-holds (placed l) c (q .0 e))
+
+    answer-same : (c : Comparison) → c .left < T .terms → c .right < T .terms → answer ts F P c ≡ answer ts F (placed l) c
+    unfolding answer
+    answer-same c h1 h2 = rw (holds-same c h1 h2, different-same (c .left) (c .offset) (c .right) h1 h2)
+
+    pub answers-computed : (qs : List Comparison) → ((k : ℕ) (c : Comparison) → Item qs k c → (c .left < T .terms) × (c .right < T .terms)) → map (λ c. answerNumber (answer ts F P c)) qs ≡ map (λ c. answerNumber (answer ts F (placed l) c)) qs
+    answers-computed [] h = refl
+    answers-computed (c ∷ qs) h =
+        let b = h 0 c refl in
+        rw (answer-same c (b .0) (b .1)) (ap (λ m. answerNumber (answer ts F (placed l) c) ∷ m) (answers-computed qs (λ k d i. h (suc k) d i)))
+
+    pub ready : Ready T reps offs
+    ready = record { good = good; canonical = C .canonical; reps-long = C .columns .reps-long; offs-long = C .columns .offs-long; within = C .columns .near }
+
+  module _ (q : ℕ) (lefts : List ℕ) (zs : List ℤ) (rights : List ℕ) (G : GoodQuestions (asking T q lefts zs rights)) where
+    sides-of : (k : ℕ) (c : Comparison) → Item (questionList q lefts zs rights) k c → (c .left < T .terms) × (c .right < T .terms)
+    unfolding questionsOf termsOf
+    sides-of k c i = let r = accepted-questions (asking T q lefts zs rights) G k i in let n = length-terms (asking T q lefts zs rights) in (omega (arith, r .0, n), omega (arith, r .1, n))
+
+    -- the columns of a satisfiable set
+    pub leaves-satisfiable :
+      (reps : List ℕ) (offs : List ℤ) →
+      Consistent T reps offs →
+      {r0 : List ℕ} {o0 : List ℤ} {m0 p0 a0 r : List ℕ} {o : List ℤ} {m p a : List ℕ} →
+      r ≡ overwrite (take (T .terms) reps) r0 →
+      o ≡ overwrite (take (T .terms) offs) o0 →
+      m ≡ overwrite (replicate (T .propositions) 0) m0 →
+      p ≡ overwrite (pairBits (λ i j. different ts F (view reps offs) i (pos 0) j) (T .terms)) p0 →
+      a ≡ overwrite (map (λ c. answerNumber (answer ts F (view reps offs) c)) (questionList q lefts zs rights)) a0 →
+      Leaves (satisfiable ts ps (questionList q lefts zs rights)) r0 o0 m0 p0 a0 r o m p a
+    unfolding satisfiable
+    leaves-satisfiable reps offs C er eo em ep ea = record {
+        representatives = rw (reps-computed reps offs C) at er;
+        offsets = rw (offs-computed reps offs C) at eo;
+        marks = rw (← (length-propositions T good)) at em;
+        pairs = rw (pairs-computed reps offs C) at ep;
+        answers = rw (answers-computed reps offs C (questionList q lefts zs rights) sides-of) at ea }
+
+    pub outcome-satisfiable : contradictory ts F ≡ false → outcome ts ps (questionList q lefts zs rights) ≡ satisfiable ts ps (questionList q lefts zs rights)
+    unfolding outcome
+    outcome-satisfiable e = rw e
+
+    pub outcome-contradiction : contradictory ts F ≡ true → outcome ts ps (questionList q lefts zs rights) ≡ contradiction ts ps (questionList q lefts zs rights)
+    unfolding outcome
+    outcome-contradiction e = rw e
