@@ -5,14 +5,14 @@ use mathlib.Core.Logic.{_≢_, ⊎-elim, _↔_}
 use mathlib.Core.Bool.{Bool, true, false, not, _&&_}
 use mathlib.Core.List.{List, [], _∷_, _++_, map}
 use native.Mathlib.Omega.{arith}
-use native.Mathlib.Nat.{div-lt-iff-lt-mul, mod-lt}
+use native.Mathlib.Nat.{div-lt-iff-lt-mul, mod-lt, mul-le-mul-right}
 use lib.Dec.{eqb, ltb}
 use lib.IntN.{ℤ, pos}
 use lib.ListN.{length, getD, take, drop, replicate, length-append, length-drop, length-map, length-replicate}
 use lib.Seq.{ext-getD, getD-take, length-take-le, drop-append-seam}
 use borrow.Author.Tests.{ltb-true}
 use Rattle.lists.specs.Items.{Item, item-below}
-use Rattle.lists.specs.Tabulate.{tabulate, select}
+use Rattle.lists.specs.Tabulate.{tabulate, length-tabulate, select}
 use Rattle.types.specs.declared.Verdict.{Verdict}
 use Rattle.types.specs.declared.Solved.{Solved}
 use Rattle.types.specs.Numbers.{answerNumber}
@@ -27,7 +27,8 @@ use Rattle.closure.specs.Join.{Label, placed, rep-at, off-at}
 use Rattle.closure.specs.Closure.{closure, length-closure}
 use Rattle.closure.specs.Verdict.{holds, holds-true, true-holds, contradictory, contradiction-exact, closure-canonical, canonical-computed}
 use Rattle.closure.specs.Differences.{different, different-exact}
-use Rattle.outcome.specs.PairBits.{pairBit, pairBits, pairBytes}
+use Rattle.outcome.specs.PairBits.{bitValue, pairBit, pairBits, pairBytes}
+use Rattle.outcome.specs.Blame.{blame}
 use Rattle.outcome.specs.Outcome.{Outcome, answer, satisfiable, contradiction, outcome}
 use Rattle.tables.specs.Call.{Tables, Memory, termsOf, propositionsOf, questionsOf, overwrite}
 use Rattle.tables.specs.Accepted.{Good, GoodQuestions, length-terms, length-propositions, accepted-well-formed, accepted-questions}
@@ -37,7 +38,7 @@ use Rattle.congruence.specs.Live.{kept, keptOf, Live, live-labels}
 use Rattle.congruence.specs.Joining.{labels-columns, Columns}
 use Rattle.congruence.specs.Deciding as deciding
 use Rattle.congruence.specs.Deciding.{Decided}
-use Rattle.solver.specs.Columns.{AllKept}
+use Rattle.solver.specs.Columns.{AllKept, ownRepresentatives, ownOffsets}
 use Rattle.solver.specs.Blaming.{all-kept}
 
 -- two Booleans that hold of the same
@@ -229,3 +230,25 @@ module _ (T : Tables) (good : Good T) where
     pub outcome-contradiction : contradictory ts F ≡ true → outcome ts ps (questionList q lefts zs rights) ≡ contradiction ts ps (questionList q lefts zs rights)
     unfolding outcome
     outcome-contradiction e = rw e
+
+    -- the columns of a contradictory set
+    pub leaves-contradiction :
+      {r0 : List ℕ} {o0 : List ℤ} {m0 p0 a0 r : List ℕ} {o : List ℤ} {m p a : List ℕ} →
+      r ≡ overwrite (ownRepresentatives (T .terms)) r0 →
+      o ≡ overwrite (ownOffsets (T .terms)) o0 →
+      m ≡ overwrite (map bitValue (blame ts ps)) m0 →
+      p ≡ overwrite (replicate (pairBytes (T .terms)) 0) p0 →
+      a ≡ overwrite (replicate q 3) a0 →
+      Leaves (contradiction ts ps (questionList q lefts zs rights)) r0 o0 m0 p0 a0 r o m p a
+    unfolding contradiction
+    leaves-contradiction er eo em ep ea =
+        let n = sym (length-terms T) in
+        record {
+            representatives = rw n at er;
+            offsets = rw n at eo;
+            marks = em;
+            pairs = rw n at ep;
+            answers = rw (← (length-tabulate (sides lefts zs rights) 0 q)) at ea }
+
+pub square-small : (n : ℕ) → n ≤ 512 → n * n ≤ 262144
+square-small n h = omega (arith, mul-le-mul-right n h)

@@ -1,6 +1,8 @@
 // The solver: tables in, every answer of paper 01 out.
 
 use congruence::is_consistent;
+use differences::answer_questions;
+use differences::pair_table;
 use types::PropositionNumber;
 ghost use mathlib.Core.Path.{_≡_};
 ghost use mathlib.Core.List.{map};
@@ -11,7 +13,9 @@ ghost use Rattle.tables.specs.Accepted.{Good};
 ghost use Rattle.outcome.specs.Blame.{blame};
 ghost use Rattle.outcome.specs.PairBits.{bitValue};
 ghost use Rattle.solver.specs.Columns.{AllKept, ownRepresentatives, ownOffsets};
+ghost use Rattle.outcome.specs.Outcome.{satisfiable, contradiction, outcome};
 ghost use Rattle.solver.specs.Blaming.{tried};
+ghost use Rattle.solver.specs.Results.{Consistent, Asked, questionList, Leaves};
 
 // Writes the value to the first cells.
 fn fill(cells: &mut [u8], count: usize, value: u8)
@@ -136,4 +140,28 @@ fn blame_marks(
             PropositionNumber(k),
         );
     }
+}
+
+// Leaves what a satisfiable set leaves. Its labels are given.
+fn leave_satisfiable(n: usize, kinds: &[u8], numbers: &[u32], zs: &[i32], m: usize, pkinds: &[u8], lefts: &[u32], pzs: &[i32], rights: &[u32], q: usize, qlefts: &[u32], qzs: &[i32], qrights: &[u32], reps: &[u32], offs: &[i64], representatives: &mut [u32], offsets: &mut [i64], marks: &mut [u8], pairs: &mut [u8], answers: &mut [u8])
+    requires { ⌜ Asked (setOf n (now kinds) (now numbers) (now zs) m (now pkinds) (now lefts) (now pzs) (now rights)) q (now qlefts) (now qzs) (now qrights) (now representatives) (now offsets) (now marks) (now pairs) (now answers) ⌝ }
+    requires { ⌜ Consistent (setOf n (now kinds) (now numbers) (now zs) m (now pkinds) (now lefts) (now pzs) (now rights)) (now reps) (now offs) ⌝ }
+    ensures { λ _. ⌜ Leaves (satisfiable (termsOf (setOf n (now (kinds .entry)) (now (numbers .entry)) (now (zs .entry)) m (now (pkinds .entry)) (now (lefts .entry)) (now (pzs .entry)) (now (rights .entry)))) (propositionsOf (setOf n (now (kinds .entry)) (now (numbers .entry)) (now (zs .entry)) m (now (pkinds .entry)) (now (lefts .entry)) (now (pzs .entry)) (now (rights .entry)))) (questionList q (now (qlefts .entry)) (now (qzs .entry)) (now (qrights .entry)))) (now (representatives .entry)) (now (offsets .entry)) (now (marks .entry)) (now (pairs .entry)) (now (answers .entry)) (now (representatives .exit)) (now (offsets .exit)) (now (marks .exit)) (now (pairs .exit)) (now (answers .exit)) ⌝ }
+{
+    copy_labels(n, reps, offs, representatives, offsets);
+    fill(marks, m, 0);
+    pair_table(n, kinds, numbers, zs, m, pkinds, lefts, pzs, rights, reps, offs, pairs);
+    answer_questions(n, kinds, numbers, zs, m, pkinds, lefts, pzs, rights, q, qlefts, qzs, qrights, reps, offs, pairs, answers);
+}
+
+// Leaves what a contradictory set leaves. All its propositions are marked; reps, offs and partners are memory to work in.
+fn leave_contradiction(n: usize, kinds: &[u8], numbers: &[u32], zs: &[i32], m: usize, pkinds: &[u8], lefts: &[u32], pzs: &[i32], rights: &[u32], q: usize, qlefts: &[u32], qzs: &[i32], qrights: &[u32], reps: &mut [u32], offs: &mut [i64], partners: &mut [u32], representatives: &mut [u32], offsets: &mut [i64], marks: &mut [u8], pairs: &mut [u8], answers: &mut [u8])
+    requires { ⌜ Asked (setOf n (now kinds) (now numbers) (now zs) m (now pkinds) (now lefts) (now pzs) (now rights)) q (now qlefts) (now qzs) (now qrights) (now representatives) (now offsets) (now marks) (now pairs) (now answers) ⌝ }
+    requires { ⌜ AllKept (now marks) m × ((n ≤ length (now reps)) × ((n ≤ length (now offs)) × (n ≤ length (now partners)))) ⌝ }
+    ensures { λ _. ⌜ Leaves (contradiction (termsOf (setOf n (now (kinds .entry)) (now (numbers .entry)) (now (zs .entry)) m (now (pkinds .entry)) (now (lefts .entry)) (now (pzs .entry)) (now (rights .entry)))) (propositionsOf (setOf n (now (kinds .entry)) (now (numbers .entry)) (now (zs .entry)) m (now (pkinds .entry)) (now (lefts .entry)) (now (pzs .entry)) (now (rights .entry)))) (questionList q (now (qlefts .entry)) (now (qzs .entry)) (now (qrights .entry)))) (now (representatives .entry)) (now (offsets .entry)) (now (marks .entry)) (now (pairs .entry)) (now (answers .entry)) (now (representatives .exit)) (now (offsets .exit)) (now (marks .exit)) (now (pairs .exit)) (now (answers .exit)) ⌝ }
+{
+    blame_marks(n, kinds, numbers, zs, m, pkinds, lefts, pzs, rights, marks, reps, offs, partners);
+    own_labels(n, representatives, offsets);
+    fill(pairs, (n * n + 7) / 8, 0);
+    fill(answers, q, 3);
 }
