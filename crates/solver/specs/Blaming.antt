@@ -154,3 +154,21 @@ pub record Turn (T : Tables) (marks0 reps0 : List ℕ) (offs0 : List ℤ) (partn
   pub reps-same : length reps ≡ length reps0
   pub offs-same : length offs ≡ length offs0
   pub partners-same : length partners ≡ length partners0
+
+-- as many marks as propositions
+length-drop-below : (T : Tables) (k : ℕ) (kept : List Bool) → length (dropBelow (termsOf T) (propositionsOf T) k kept) ≡ length kept
+unfolding dropBelow
+length-drop-below T zero kept = refl
+length-drop-below T (suc k) kept =
+    length-drop-below T k (choose (keptContradictory (termsOf T) (propositionsOf T) (set kept k false)) (set kept k false) kept)
+    ∙ chosen (keptContradictory (termsOf T) (propositionsOf T) (set kept k false))
+  where
+    chosen : (b : Bool) → length (choose b (set kept k false) kept) ≡ length kept
+    chosen true = length-set kept k false
+    chosen false = refl
+
+pub length-blame : (T : Tables) → Good T → length (blame (termsOf T) (propositionsOf T)) ≡ T .propositions
+unfolding blame
+length-blame T good =
+    length-drop-below T (length (propositionsOf T)) (replicate (length (propositionsOf T)) true)
+    ∙ (length-replicate (length (propositionsOf T)) true ∙ length-propositions T good)

@@ -2,3 +2,4 @@
 pub mod Columns
 pub mod Blaming
 pub mod Results
+pub mod Answered

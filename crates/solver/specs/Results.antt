@@ -8,7 +8,7 @@ use native.Mathlib.Omega.{arith}
 use native.Mathlib.Nat.{div-lt-iff-lt-mul, mod-lt, mul-le-mul-right}
 use lib.Dec.{eqb, ltb}
 use lib.IntN.{ℤ, pos}
-use lib.ListN.{length, getD, take, drop, replicate, length-append, length-drop, length-map, length-replicate}
+use lib.ListN.{length, getD, take, drop, replicate, length-append, length-drop, length-map, length-replicate, getD-replicate, List·getD-append}
 use lib.Seq.{ext-getD, getD-take, length-take-le, drop-append-seam}
 use borrow.Author.Tests.{ltb-true}
 use Rattle.lists.specs.Items.{Item, item-below}
@@ -39,7 +39,7 @@ use Rattle.congruence.specs.Joining.{labels-columns, Columns}
 use Rattle.congruence.specs.Deciding as deciding
 use Rattle.congruence.specs.Deciding.{Decided}
 use Rattle.solver.specs.Columns.{AllKept, ownRepresentatives, ownOffsets}
-use Rattle.solver.specs.Blaming.{all-kept}
+use Rattle.solver.specs.Blaming.{all-kept, length-blame}
 
 -- two Booleans that hold of the same
 same-truth : {A : Type 0} (a b : Bool) → (a ≡ true ↔ A) → (b ≡ true ↔ A) → a ≡ b
@@ -252,3 +252,58 @@ module _ (T : Tables) (good : Good T) where
 
 pub square-small : (n : ℕ) → n ≤ 512 → n * n ≤ 262144
 square-small n h = omega (arith, mul-le-mul-right n h)
+
+-- what the solver returns for a verdict
+abbrev pub solvedAs : Verdict → Solved
+solvedAs Verdict.Satisfiable = Solved.Satisfiable
+solvedAs Verdict.Contradiction = Solved.Contradiction
+
+-- an accepted call
+pub record Solves (O : Outcome) (result : Solved) (r0 : List ℕ) (o0 : List ℤ) (m0 p0 a0 : List ℕ) (r : List ℕ) (o : List ℤ) (m p a : List ℕ) : Type 0 where
+  pub verdict : result ≡ solvedAs (O .verdict)
+  pub leaves : Leaves O r0 o0 m0 p0 a0 r o m p a
+
+-- marks that were set before
+pub leaves-again : {O : Outcome} {r0 : List ℕ} {o0 : List ℤ} (b m0 : List ℕ) {p0 a0 r : List ℕ} {o : List ℤ} {m p a : List ℕ} → length (O .marks) ≡ length b → Leaves O r0 o0 (overwrite b m0) p0 a0 r o m p a → Leaves O r0 o0 m0 p0 a0 r o m p a
+leaves-again {O = O} b m0 e L = record {
+    representatives = L .representatives;
+    offsets = L .offsets;
+    marks = L .marks ∙ overwrite-twice (O .marks) b m0 e;
+    pairs = L .pairs;
+    answers = L .answers }
+
+-- the first cells after a fill
+pub filled-all : (l : List ℕ) (m v : ℕ) → m ≤ length l → (k : ℕ) → k < m → getD (overwrite (replicate m v) l) k 0 ≡ v
+filled-all l m v h k b =
+    List·getD-append (replicate m v) (drop (length (replicate m v)) l) 0 k (omega (arith, length-replicate m v)) ∙ getD-replicate m k v 0 b
+
+pub length-filled : (l : List ℕ) (m v : ℕ) → m ≤ length l → m ≤ length (overwrite (replicate m v) l)
+length-filled l m v h =
+    omega (arith, length-append (replicate m v) (drop (length (replicate m v)) l), length-replicate m v)
+
+module _ (T : Tables) (good : Good T) (q : ℕ) (lefts : List ℕ) (zs : List ℤ) (rights : List ℕ) (G : GoodQuestions (asking T q lefts zs rights)) where
+  satisfiable-marks : length (satisfiable (termsOf T) (propositionsOf T) (questionList q lefts zs rights) .marks) ≡ T .propositions
+  unfolding satisfiable
+  satisfiable-marks = length-replicate (length (propositionsOf T)) 0 ∙ length-propositions T good
+
+  contradiction-marks : length (contradiction (termsOf T) (propositionsOf T) (questionList q lefts zs rights) .marks) ≡ T .propositions
+  unfolding contradiction
+  contradiction-marks = length-map (blame (termsOf T) (propositionsOf T)) bitValue ∙ length-blame T good
+
+  satisfiable-verdict : satisfiable (termsOf T) (propositionsOf T) (questionList q lefts zs rights) .verdict ≡ Verdict.Satisfiable
+  unfolding satisfiable
+  satisfiable-verdict = refl
+
+  contradiction-verdict : contradiction (termsOf T) (propositionsOf T) (questionList q lefts zs rights) .verdict ≡ Verdict.Contradiction
+  unfolding contradiction
+  contradiction-verdict = refl
+
+  pub solves-satisfiable : {r0 : List ℕ} {o0 : List ℤ} {m0 p0 a0 r : List ℕ} {o : List ℤ} {m p a : List ℕ} → contradictory (termsOf T) (facts (termsOf T) (propositionsOf T)) ≡ false → Leaves (satisfiable (termsOf T) (propositionsOf T) (questionList q lefts zs rights)) r0 o0 (overwrite (replicate (T .propositions) 1) m0) p0 a0 r o m p a → Solves (outcome (termsOf T) (propositionsOf T) (questionList q lefts zs rights)) Solved.Satisfiable r0 o0 m0 p0 a0 r o m p a
+  solves-satisfiable {m0 = m0} e L =
+      rw (outcome-satisfiable T good q lefts zs rights G e)
+      (record { verdict = rw satisfiable-verdict; leaves = leaves-again (replicate (T .propositions) 1) m0 (satisfiable-marks ∙ sym (length-replicate (T .propositions) 1)) L })
+
+  pub solves-contradiction : {r0 : List ℕ} {o0 : List ℤ} {m0 p0 a0 r : List ℕ} {o : List ℤ} {m p a : List ℕ} → contradictory (termsOf T) (facts (termsOf T) (propositionsOf T)) ≡ true → Leaves (contradiction (termsOf T) (propositionsOf T) (questionList q lefts zs rights)) r0 o0 (overwrite (replicate (T .propositions) 1) m0) p0 a0 r o m p a → Solves (outcome (termsOf T) (propositionsOf T) (questionList q lefts zs rights)) Solved.Contradiction r0 o0 m0 p0 a0 r o m p a
+  solves-contradiction {m0 = m0} e L =
+      rw (outcome-contradiction T good q lefts zs rights G e)
+      (record { verdict = rw contradiction-verdict; leaves = leaves-again (replicate (T .propositions) 1) m0 (contradiction-marks ∙ sym (length-replicate (T .propositions) 1)) L })

@@ -1,9 +1,12 @@
 // The solver: tables in, every answer of paper 01 out.
 
+use checks::check;
 use congruence::is_consistent;
 use differences::answer_questions;
 use differences::pair_table;
+use types::Checked;
 use types::PropositionNumber;
+use types::Solved;
 ghost use mathlib.Core.Path.{_≡_};
 ghost use mathlib.Core.List.{map};
 ghost use Prim.Native.Nat.{ℕ, _+_, _≤_, _<_};
@@ -15,7 +18,9 @@ ghost use Rattle.outcome.specs.PairBits.{bitValue};
 ghost use Rattle.solver.specs.Columns.{AllKept, ownRepresentatives, ownOffsets};
 ghost use Rattle.outcome.specs.Outcome.{satisfiable, contradiction, outcome};
 ghost use Rattle.solver.specs.Blaming.{tried};
-ghost use Rattle.solver.specs.Results.{Consistent, Asked, questionList, Leaves};
+ghost use Rattle.solver.specs.Results.{Consistent, Asked, questionList, Leaves, Solves};
+ghost use Rattle.checks.specs.Limits.{tablesOf};
+ghost use Rattle.solver.specs.Answered.{memoryOf, Answered};
 
 // Writes the value to the first cells.
 fn fill(cells: &mut [u8], count: usize, value: u8)
@@ -164,4 +169,33 @@ fn leave_contradiction(n: usize, kinds: &[u8], numbers: &[u32], zs: &[i32], m: u
     own_labels(n, representatives, offsets);
     fill(pairs, (n * n + 7) / 8, 0);
     fill(answers, q, 3);
+}
+
+// Solves an accepted set.
+fn solve_accepted(n: usize, kinds: &[u8], numbers: &[u32], zs: &[i32], m: usize, pkinds: &[u8], lefts: &[u32], pzs: &[i32], rights: &[u32], q: usize, qlefts: &[u32], qzs: &[i32], qrights: &[u32], representatives: &mut [u32], offsets: &mut [i64], marks: &mut [u8], pairs: &mut [u8], answers: &mut [u8]) -> Solved
+    requires { ⌜ Asked (setOf n (now kinds) (now numbers) (now zs) m (now pkinds) (now lefts) (now pzs) (now rights)) q (now qlefts) (now qzs) (now qrights) (now representatives) (now offsets) (now marks) (now pairs) (now answers) ⌝ }
+    ensures { λ r. ⌜ Solves (outcome (termsOf (setOf n (now (kinds .entry)) (now (numbers .entry)) (now (zs .entry)) m (now (pkinds .entry)) (now (lefts .entry)) (now (pzs .entry)) (now (rights .entry)))) (propositionsOf (setOf n (now (kinds .entry)) (now (numbers .entry)) (now (zs .entry)) m (now (pkinds .entry)) (now (lefts .entry)) (now (pzs .entry)) (now (rights .entry)))) (questionList q (now (qlefts .entry)) (now (qzs .entry)) (now (qrights .entry)))) r (now (representatives .entry)) (now (offsets .entry)) (now (marks .entry)) (now (pairs .entry)) (now (answers .entry)) (now (representatives .exit)) (now (offsets .exit)) (now (marks .exit)) (now (pairs .exit)) (now (answers .exit)) ⌝ }
+{
+    let mut reps = [0u32; 512];
+    let mut offs = [0i64; 512];
+    let mut partners = [0u32; 512];
+    fill(marks, m, 1);
+    if is_consistent(n, kinds, numbers, zs, m, pkinds, lefts, pzs, rights, marks, &mut reps, &mut offs, &mut partners) {
+        leave_satisfiable(n, kinds, numbers, zs, m, pkinds, lefts, pzs, rights, q, qlefts, qzs, qrights, &reps, &offs, representatives, offsets, marks, pairs, answers);
+        return Solved::Satisfiable;
+    }
+    leave_contradiction(n, kinds, numbers, zs, m, pkinds, lefts, pzs, rights, q, qlefts, qzs, qrights, &mut reps, &mut offs, &mut partners, representatives, offsets, marks, pairs, answers);
+    Solved::Contradiction
+}
+
+// Solves the set of n terms, m propositions and q questions that the columns hold, and leaves in the lent memory what paper 01 says.
+// Every call is answered: one that is refused changes nothing.
+pub fn solve(n: usize, kinds: &[u8], numbers: &[u32], zs: &[i32], m: usize, pkinds: &[u8], lefts: &[u32], pzs: &[i32], rights: &[u32], q: usize, qlefts: &[u32], qzs: &[i32], qrights: &[u32], representatives: &mut [u32], offsets: &mut [i64], marks: &mut [u8], pairs: &mut [u8], answers: &mut [u8]) -> Solved
+    ensures { λ r. ⌜ Answered (tablesOf n (now (kinds .entry)) (now (numbers .entry)) (now (zs .entry)) m (now (pkinds .entry)) (now (lefts .entry)) (now (pzs .entry)) (now (rights .entry)) q (now (qlefts .entry)) (now (qzs .entry)) (now (qrights .entry))) (memoryOf (now (representatives .entry)) (now (offsets .entry)) (now (marks .entry)) (now (pairs .entry)) (now (answers .entry))) (memoryOf (now (representatives .exit)) (now (offsets .exit)) (now (marks .exit)) (now (pairs .exit)) (now (answers .exit))) r ⌝ }
+{
+    let checked = check(n, kinds, numbers, zs, m, pkinds, lefts, pzs, rights, q, qlefts, qzs, qrights, representatives.len(), offsets.len(), marks.len(), pairs.len(), answers.len());
+    if let Checked::Refused(refusal, place) = checked {
+        return Solved::Refused(refusal, place);
+    }
+    solve_accepted(n, kinds, numbers, zs, m, pkinds, lefts, pzs, rights, q, qlefts, qzs, qrights, representatives, offsets, marks, pairs, answers)
 }
