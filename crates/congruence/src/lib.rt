@@ -104,7 +104,7 @@ fn reset(reps: &mut [u32], offs: &mut [i64], n: usize)
 }
 
 // Whether the labels say a = z + b.
-pub fn holds(reps: &[u32], offs: &[i64], n: usize, a: TermNumber, z: i64, b: TermNumber) -> bool
+fn holds(reps: &[u32], offs: &[i64], n: usize, a: TermNumber, z: i64, b: TermNumber) -> bool
     requires { ⌜ Columns n (now reps) (now offs) × ((a .0 < n) × ((b .0 < n) × Within far z)) ⌝ }
     ensures { λ r. ⌜ r ≡ labelsHold (view (now (reps .entry)) (now (offs .entry))) (comparison (a .0) z (b .0)) ⌝ }
 {
@@ -660,7 +660,8 @@ fn variables_meet(kinds: &[u8], reps: &[u32], n: usize) -> bool
     false
 }
 
-// The verdict on the kept propositions: whether they are consistent. If they are, the labels are the closure's.
+// The verdict on the kept propositions: whether they are consistent. If they are, the labels are the closure's; else what is left in the labels is not told. Nor is what is left in the partners, memory to work in.
+// Public for the crate `solver`.
 pub fn is_consistent(
     n: usize,
     kinds: &[u8],

@@ -7,3 +7,4 @@ pub mod Settle
 pub mod Bounds
 pub mod Ranges
 pub mod Answers
+pub mod Same

@@ -10,9 +10,9 @@ use lib.Dec.{eqb, ltb}
 use lib.ListN.{length, getD, set, drop, length-set, length-append, length-drop, List·getD-append, List·getD-eq-default}
 use lib.Pow.{shl-shr, shr-shr, pow-lt, pow-add}
 use lib.Seq.{getD-set-same, getD-set-other, getD-append-add, getD-drop, ext-getD}
-use borrow.Author.Tests.{eqb-true, eqb-false, eq-eqb, ne-eqb, ltb-true, ltb-false}
+use borrow.Author.Tests.{eqb-true, eqb-false, eq-eqb, ne-eqb, ltb-true, ltb-false, le-ltb}
 use Rattle.lists.specs.Tabulate.{tabulate, length-tabulate, tabulate-at}
-use Rattle.outcome.specs.PairBits.{bitOf, bitValue, number, number-bit, pairBit, pairBits, pairBytes}
+use Rattle.outcome.specs.PairBits.{bitOf, bitValue, number, number-bit, pairBit, pairBits, pairBytes, pair-bit}
 
 -- the table with bit i set to 1
 unfoldable pub withBit : List ℕ → ℕ → List ℕ
@@ -246,3 +246,13 @@ pub pairBits-told : (f : ℕ → ℕ → Bool) (n : ℕ) (l : List ℕ) → Byte
 pairBits-told f n l b size a =
     bits-told l (pairBits f n) b (bytes-pairBits f n) (size ∙ sym (length-pairBits f n))
     (λ k h. let g : k / 8 < pairBytes n = omega arith in agree-bit f n l a k g ∙ sym (isSet-pairBits f n k g))
+
+-- tables of two functions that agree on the pairs are equal
+pub pairBits-same : (f g : ℕ → ℕ → Bool) (n : ℕ) → ((i j : ℕ) → i < n → j < n → f i j ≡ g i j) → pairBits f n ≡ pairBits g n
+unfolding pairBit
+pairBits-same f g n e =
+    pairBits-told g n (pairBits f n) (bytes-pairBits f n) (length-pairBits f n)
+    (record {
+      pair = λ i j hi hj. isSet-value (pairBits f n) (i * n + j) (f i j) (pair-bit f n i j hi hj) ∙ e i j hi hj;
+      unused = λ k h l. let out = le-ltb k (n * n) h in isSet-pairBits f n k l ∙ rw out;
+    })

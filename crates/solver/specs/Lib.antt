@@ -3,3 +3,4 @@ pub mod Columns
 pub mod Blaming
 pub mod Results
 pub mod Answered
+pub mod Demands

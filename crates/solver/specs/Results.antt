@@ -127,9 +127,10 @@ module _ (T : Tables) (good : Good T) where
       let same = kept-listed marks A in
       let M2 = rw same at M in
       record {
-          columns = labels-columns (live-labels T marks good L);
-          canonical = record { sound = rw same at (L .live .state .sound); respects = M2 .respects; lowest = L .live .state .lowest };
-          no-contradiction = no-true (view reps offs) M2 }
+        columns = labels-columns (live-labels T marks good L);
+        canonical = record { sound = rw same at (L .live .state .sound); respects = M2 .respects; lowest = L .live .state .lowest };
+        no-contradiction = no-true (view reps offs) M2;
+      }
 
   pub when-contradictory : {marks reps : List ℕ} {offs : List ℤ} → AllKept marks (T .propositions) → Decided T marks reps offs false → contradictory ts F ≡ true
   when-contradictory {marks} A (deciding.contradictory c) =
@@ -154,16 +155,16 @@ module _ (T : Tables) (good : Good T) where
         let n = length-take-le (T .terms) reps (C .columns .reps-long) in
         ext-getD 0 (take (T .terms) reps) (map (λ x. x .rep) l) (n ∙ sym (length-map l _ ∙ long))
         (λ t h.
-            let b : t < T .terms = omega arith in
-            getD-take (T .terms) reps t 0 b ∙ (computed t b .0 ∙ sym (rep-at l t (omega (arith, long)))))
+        let b : t < T .terms = omega arith in
+        getD-take (T .terms) reps t 0 b ∙ (computed t b .0 ∙ sym (rep-at l t (omega (arith, long)))))
 
     pub offs-computed : take (T .terms) offs ≡ map (λ x. x .off) l
     offs-computed =
         let n = length-take-le (T .terms) offs (C .columns .offs-long) in
         ext-getD (pos 0) (take (T .terms) offs) (map (λ x. x .off) l) (n ∙ sym (length-map l _ ∙ long))
         (λ t h.
-            let b : t < T .terms = omega arith in
-            getD-take (T .terms) offs t (pos 0) b ∙ (computed t b .1 ∙ sym (off-at l t (omega (arith, long)))))
+        let b : t < T .terms = omega arith in
+        getD-take (T .terms) offs t (pos 0) b ∙ (computed t b .1 ∙ sym (off-at l t (omega (arith, long)))))
 
     canonical-closure : Canonical ts (listed ts ps) (placed l)
     canonical-closure = closure-canonical ts (listed ts ps) wf F (lists ts ps) (C .no-contradiction)
@@ -206,22 +207,23 @@ module _ (T : Tables) (good : Good T) where
 
     -- the columns of a satisfiable set
     pub leaves-satisfiable :
-      (reps : List ℕ) (offs : List ℤ) →
-      Consistent T reps offs →
-      {r0 : List ℕ} {o0 : List ℤ} {m0 p0 a0 r : List ℕ} {o : List ℤ} {m p a : List ℕ} →
-      r ≡ overwrite (take (T .terms) reps) r0 →
-      o ≡ overwrite (take (T .terms) offs) o0 →
-      m ≡ overwrite (replicate (T .propositions) 0) m0 →
-      p ≡ overwrite (pairBits (λ i j. different ts F (view reps offs) i (pos 0) j) (T .terms)) p0 →
-      a ≡ overwrite (map (λ c. answerNumber (answer ts F (view reps offs) c)) (questionList q lefts zs rights)) a0 →
-      Leaves (satisfiable ts ps (questionList q lefts zs rights)) r0 o0 m0 p0 a0 r o m p a
+        (reps : List ℕ) (offs : List ℤ) →
+        Consistent T reps offs →
+        {r0 : List ℕ} {o0 : List ℤ} {m0 p0 a0 r : List ℕ} {o : List ℤ} {m p a : List ℕ} →
+        r ≡ overwrite (take (T .terms) reps) r0 →
+        o ≡ overwrite (take (T .terms) offs) o0 →
+        m ≡ overwrite (replicate (T .propositions) 0) m0 →
+        p ≡ overwrite (pairBits (λ i j. different ts F (view reps offs) i (pos 0) j) (T .terms)) p0 →
+        a ≡ overwrite (map (λ c. answerNumber (answer ts F (view reps offs) c)) (questionList q lefts zs rights)) a0 →
+        Leaves (satisfiable ts ps (questionList q lefts zs rights)) r0 o0 m0 p0 a0 r o m p a
     unfolding satisfiable
     leaves-satisfiable reps offs C er eo em ep ea = record {
-        representatives = rw (reps-computed reps offs C) at er;
-        offsets = rw (offs-computed reps offs C) at eo;
-        marks = rw (← (length-propositions T good)) at em;
-        pairs = rw (pairs-computed reps offs C) at ep;
-        answers = rw (answers-computed reps offs C (questionList q lefts zs rights) sides-of) at ea }
+      representatives = rw (reps-computed reps offs C) at er;
+      offsets = rw (offs-computed reps offs C) at eo;
+      marks = rw (← (length-propositions T good)) at em;
+      pairs = rw (pairs-computed reps offs C) at ep;
+      answers = rw (answers-computed reps offs C (questionList q lefts zs rights) sides-of) at ea;
+    }
 
     pub outcome-satisfiable : contradictory ts F ≡ false → outcome ts ps (questionList q lefts zs rights) ≡ satisfiable ts ps (questionList q lefts zs rights)
     unfolding outcome
@@ -233,22 +235,23 @@ module _ (T : Tables) (good : Good T) where
 
     -- the columns of a contradictory set
     pub leaves-contradiction :
-      {r0 : List ℕ} {o0 : List ℤ} {m0 p0 a0 r : List ℕ} {o : List ℤ} {m p a : List ℕ} →
-      r ≡ overwrite (ownRepresentatives (T .terms)) r0 →
-      o ≡ overwrite (ownOffsets (T .terms)) o0 →
-      m ≡ overwrite (map bitValue (blame ts ps)) m0 →
-      p ≡ overwrite (replicate (pairBytes (T .terms)) 0) p0 →
-      a ≡ overwrite (replicate q 3) a0 →
-      Leaves (contradiction ts ps (questionList q lefts zs rights)) r0 o0 m0 p0 a0 r o m p a
+        {r0 : List ℕ} {o0 : List ℤ} {m0 p0 a0 r : List ℕ} {o : List ℤ} {m p a : List ℕ} →
+        r ≡ overwrite (ownRepresentatives (T .terms)) r0 →
+        o ≡ overwrite (ownOffsets (T .terms)) o0 →
+        m ≡ overwrite (map bitValue (blame ts ps)) m0 →
+        p ≡ overwrite (replicate (pairBytes (T .terms)) 0) p0 →
+        a ≡ overwrite (replicate q 3) a0 →
+        Leaves (contradiction ts ps (questionList q lefts zs rights)) r0 o0 m0 p0 a0 r o m p a
     unfolding contradiction
     leaves-contradiction er eo em ep ea =
         let n = sym (length-terms T) in
         record {
-            representatives = rw n at er;
-            offsets = rw n at eo;
-            marks = em;
-            pairs = rw n at ep;
-            answers = rw (← (length-tabulate (sides lefts zs rights) 0 q)) at ea }
+          representatives = rw n at er;
+          offsets = rw n at eo;
+          marks = em;
+          pairs = rw n at ep;
+          answers = rw (← (length-tabulate (sides lefts zs rights) 0 q)) at ea;
+        }
 
 pub square-small : (n : ℕ) → n ≤ 512 → n * n ≤ 262144
 square-small n h = omega (arith, mul-le-mul-right n h)
@@ -266,11 +269,12 @@ pub record Solves (O : Outcome) (result : Solved) (r0 : List ℕ) (o0 : List ℤ
 -- marks that were set before
 pub leaves-again : {O : Outcome} {r0 : List ℕ} {o0 : List ℤ} (b m0 : List ℕ) {p0 a0 r : List ℕ} {o : List ℤ} {m p a : List ℕ} → length (O .marks) ≡ length b → Leaves O r0 o0 (overwrite b m0) p0 a0 r o m p a → Leaves O r0 o0 m0 p0 a0 r o m p a
 leaves-again {O = O} b m0 e L = record {
-    representatives = L .representatives;
-    offsets = L .offsets;
-    marks = L .marks ∙ overwrite-twice (O .marks) b m0 e;
-    pairs = L .pairs;
-    answers = L .answers }
+  representatives = L .representatives;
+  offsets = L .offsets;
+  marks = L .marks ∙ overwrite-twice (O .marks) b m0 e;
+  pairs = L .pairs;
+  answers = L .answers;
+}
 
 -- the first cells after a fill
 pub filled-all : (l : List ℕ) (m v : ℕ) → m ≤ length l → (k : ℕ) → k < m → getD (overwrite (replicate m v) l) k 0 ≡ v

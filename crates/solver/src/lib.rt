@@ -148,31 +148,138 @@ fn blame_marks(
 }
 
 // Leaves what a satisfiable set leaves. Its labels are given.
-fn leave_satisfiable(n: usize, kinds: &[u8], numbers: &[u32], zs: &[i32], m: usize, pkinds: &[u8], lefts: &[u32], pzs: &[i32], rights: &[u32], q: usize, qlefts: &[u32], qzs: &[i32], qrights: &[u32], reps: &[u32], offs: &[i64], representatives: &mut [u32], offsets: &mut [i64], marks: &mut [u8], pairs: &mut [u8], answers: &mut [u8])
+fn leave_satisfiable(
+    n: usize,
+    kinds: &[u8],
+    numbers: &[u32],
+    zs: &[i32],
+    m: usize,
+    pkinds: &[u8],
+    lefts: &[u32],
+    pzs: &[i32],
+    rights: &[u32],
+    q: usize,
+    qlefts: &[u32],
+    qzs: &[i32],
+    qrights: &[u32],
+    reps: &[u32],
+    offs: &[i64],
+    representatives: &mut [u32],
+    offsets: &mut [i64],
+    marks: &mut [u8],
+    pairs: &mut [u8],
+    answers: &mut [u8],
+)
     requires { ⌜ Asked (setOf n (now kinds) (now numbers) (now zs) m (now pkinds) (now lefts) (now pzs) (now rights)) q (now qlefts) (now qzs) (now qrights) (now representatives) (now offsets) (now marks) (now pairs) (now answers) ⌝ }
     requires { ⌜ Consistent (setOf n (now kinds) (now numbers) (now zs) m (now pkinds) (now lefts) (now pzs) (now rights)) (now reps) (now offs) ⌝ }
     ensures { λ _. ⌜ Leaves (satisfiable (termsOf (setOf n (now (kinds .entry)) (now (numbers .entry)) (now (zs .entry)) m (now (pkinds .entry)) (now (lefts .entry)) (now (pzs .entry)) (now (rights .entry)))) (propositionsOf (setOf n (now (kinds .entry)) (now (numbers .entry)) (now (zs .entry)) m (now (pkinds .entry)) (now (lefts .entry)) (now (pzs .entry)) (now (rights .entry)))) (questionList q (now (qlefts .entry)) (now (qzs .entry)) (now (qrights .entry)))) (now (representatives .entry)) (now (offsets .entry)) (now (marks .entry)) (now (pairs .entry)) (now (answers .entry)) (now (representatives .exit)) (now (offsets .exit)) (now (marks .exit)) (now (pairs .exit)) (now (answers .exit)) ⌝ }
 {
     copy_labels(n, reps, offs, representatives, offsets);
     fill(marks, m, 0);
-    pair_table(n, kinds, numbers, zs, m, pkinds, lefts, pzs, rights, reps, offs, pairs);
-    answer_questions(n, kinds, numbers, zs, m, pkinds, lefts, pzs, rights, q, qlefts, qzs, qrights, reps, offs, pairs, answers);
+    pair_table(
+        n,
+        kinds,
+        numbers,
+        zs,
+        m,
+        pkinds,
+        lefts,
+        pzs,
+        rights,
+        reps,
+        offs,
+        pairs,
+    );
+    answer_questions(
+        n,
+        kinds,
+        numbers,
+        zs,
+        m,
+        pkinds,
+        lefts,
+        pzs,
+        rights,
+        q,
+        qlefts,
+        qzs,
+        qrights,
+        reps,
+        offs,
+        pairs,
+        answers,
+    );
 }
 
 // Leaves what a contradictory set leaves. All its propositions are marked; reps, offs and partners are memory to work in.
-fn leave_contradiction(n: usize, kinds: &[u8], numbers: &[u32], zs: &[i32], m: usize, pkinds: &[u8], lefts: &[u32], pzs: &[i32], rights: &[u32], q: usize, qlefts: &[u32], qzs: &[i32], qrights: &[u32], reps: &mut [u32], offs: &mut [i64], partners: &mut [u32], representatives: &mut [u32], offsets: &mut [i64], marks: &mut [u8], pairs: &mut [u8], answers: &mut [u8])
+fn leave_contradiction(
+    n: usize,
+    kinds: &[u8],
+    numbers: &[u32],
+    zs: &[i32],
+    m: usize,
+    pkinds: &[u8],
+    lefts: &[u32],
+    pzs: &[i32],
+    rights: &[u32],
+    q: usize,
+    qlefts: &[u32],
+    qzs: &[i32],
+    qrights: &[u32],
+    reps: &mut [u32],
+    offs: &mut [i64],
+    partners: &mut [u32],
+    representatives: &mut [u32],
+    offsets: &mut [i64],
+    marks: &mut [u8],
+    pairs: &mut [u8],
+    answers: &mut [u8],
+)
     requires { ⌜ Asked (setOf n (now kinds) (now numbers) (now zs) m (now pkinds) (now lefts) (now pzs) (now rights)) q (now qlefts) (now qzs) (now qrights) (now representatives) (now offsets) (now marks) (now pairs) (now answers) ⌝ }
     requires { ⌜ AllKept (now marks) m × ((n ≤ length (now reps)) × ((n ≤ length (now offs)) × (n ≤ length (now partners)))) ⌝ }
     ensures { λ _. ⌜ Leaves (contradiction (termsOf (setOf n (now (kinds .entry)) (now (numbers .entry)) (now (zs .entry)) m (now (pkinds .entry)) (now (lefts .entry)) (now (pzs .entry)) (now (rights .entry)))) (propositionsOf (setOf n (now (kinds .entry)) (now (numbers .entry)) (now (zs .entry)) m (now (pkinds .entry)) (now (lefts .entry)) (now (pzs .entry)) (now (rights .entry)))) (questionList q (now (qlefts .entry)) (now (qzs .entry)) (now (qrights .entry)))) (now (representatives .entry)) (now (offsets .entry)) (now (marks .entry)) (now (pairs .entry)) (now (answers .entry)) (now (representatives .exit)) (now (offsets .exit)) (now (marks .exit)) (now (pairs .exit)) (now (answers .exit)) ⌝ }
 {
-    blame_marks(n, kinds, numbers, zs, m, pkinds, lefts, pzs, rights, marks, reps, offs, partners);
+    blame_marks(
+        n,
+        kinds,
+        numbers,
+        zs,
+        m,
+        pkinds,
+        lefts,
+        pzs,
+        rights,
+        marks,
+        reps,
+        offs,
+        partners,
+    );
     own_labels(n, representatives, offsets);
     fill(pairs, (n * n + 7) / 8, 0);
     fill(answers, q, 3);
 }
 
 // Solves an accepted set.
-fn solve_accepted(n: usize, kinds: &[u8], numbers: &[u32], zs: &[i32], m: usize, pkinds: &[u8], lefts: &[u32], pzs: &[i32], rights: &[u32], q: usize, qlefts: &[u32], qzs: &[i32], qrights: &[u32], representatives: &mut [u32], offsets: &mut [i64], marks: &mut [u8], pairs: &mut [u8], answers: &mut [u8]) -> Solved
+fn solve_accepted(
+    n: usize,
+    kinds: &[u8],
+    numbers: &[u32],
+    zs: &[i32],
+    m: usize,
+    pkinds: &[u8],
+    lefts: &[u32],
+    pzs: &[i32],
+    rights: &[u32],
+    q: usize,
+    qlefts: &[u32],
+    qzs: &[i32],
+    qrights: &[u32],
+    representatives: &mut [u32],
+    offsets: &mut [i64],
+    marks: &mut [u8],
+    pairs: &mut [u8],
+    answers: &mut [u8],
+) -> Solved
     requires { ⌜ Asked (setOf n (now kinds) (now numbers) (now zs) m (now pkinds) (now lefts) (now pzs) (now rights)) q (now qlefts) (now qzs) (now qrights) (now representatives) (now offsets) (now marks) (now pairs) (now answers) ⌝ }
     ensures { λ r. ⌜ Solves (outcome (termsOf (setOf n (now (kinds .entry)) (now (numbers .entry)) (now (zs .entry)) m (now (pkinds .entry)) (now (lefts .entry)) (now (pzs .entry)) (now (rights .entry)))) (propositionsOf (setOf n (now (kinds .entry)) (now (numbers .entry)) (now (zs .entry)) m (now (pkinds .entry)) (now (lefts .entry)) (now (pzs .entry)) (now (rights .entry)))) (questionList q (now (qlefts .entry)) (now (qzs .entry)) (now (qrights .entry)))) r (now (representatives .entry)) (now (offsets .entry)) (now (marks .entry)) (now (pairs .entry)) (now (answers .entry)) (now (representatives .exit)) (now (offsets .exit)) (now (marks .exit)) (now (pairs .exit)) (now (answers .exit)) ⌝ }
 {
@@ -180,22 +287,136 @@ fn solve_accepted(n: usize, kinds: &[u8], numbers: &[u32], zs: &[i32], m: usize,
     let mut offs = [0i64; 512];
     let mut partners = [0u32; 512];
     fill(marks, m, 1);
-    if is_consistent(n, kinds, numbers, zs, m, pkinds, lefts, pzs, rights, marks, &mut reps, &mut offs, &mut partners) {
-        leave_satisfiable(n, kinds, numbers, zs, m, pkinds, lefts, pzs, rights, q, qlefts, qzs, qrights, &reps, &offs, representatives, offsets, marks, pairs, answers);
+    if is_consistent(
+        n,
+        kinds,
+        numbers,
+        zs,
+        m,
+        pkinds,
+        lefts,
+        pzs,
+        rights,
+        marks,
+        &mut reps,
+        &mut offs,
+        &mut partners,
+    ) {
+        leave_satisfiable(
+            n,
+            kinds,
+            numbers,
+            zs,
+            m,
+            pkinds,
+            lefts,
+            pzs,
+            rights,
+            q,
+            qlefts,
+            qzs,
+            qrights,
+            &reps,
+            &offs,
+            representatives,
+            offsets,
+            marks,
+            pairs,
+            answers,
+        );
         return Solved::Satisfiable;
     }
-    leave_contradiction(n, kinds, numbers, zs, m, pkinds, lefts, pzs, rights, q, qlefts, qzs, qrights, &mut reps, &mut offs, &mut partners, representatives, offsets, marks, pairs, answers);
+    leave_contradiction(
+        n,
+        kinds,
+        numbers,
+        zs,
+        m,
+        pkinds,
+        lefts,
+        pzs,
+        rights,
+        q,
+        qlefts,
+        qzs,
+        qrights,
+        &mut reps,
+        &mut offs,
+        &mut partners,
+        representatives,
+        offsets,
+        marks,
+        pairs,
+        answers,
+    );
     Solved::Contradiction
 }
 
 // Solves the set of n terms, m propositions and q questions that the columns hold, and leaves in the lent memory what paper 01 says.
 // Every call is answered: one that is refused changes nothing.
-pub fn solve(n: usize, kinds: &[u8], numbers: &[u32], zs: &[i32], m: usize, pkinds: &[u8], lefts: &[u32], pzs: &[i32], rights: &[u32], q: usize, qlefts: &[u32], qzs: &[i32], qrights: &[u32], representatives: &mut [u32], offsets: &mut [i64], marks: &mut [u8], pairs: &mut [u8], answers: &mut [u8]) -> Solved
+pub fn solve(
+    n: usize,
+    kinds: &[u8],
+    numbers: &[u32],
+    zs: &[i32],
+    m: usize,
+    pkinds: &[u8],
+    lefts: &[u32],
+    pzs: &[i32],
+    rights: &[u32],
+    q: usize,
+    qlefts: &[u32],
+    qzs: &[i32],
+    qrights: &[u32],
+    representatives: &mut [u32],
+    offsets: &mut [i64],
+    marks: &mut [u8],
+    pairs: &mut [u8],
+    answers: &mut [u8],
+) -> Solved
     ensures { λ r. ⌜ Answered (tablesOf n (now (kinds .entry)) (now (numbers .entry)) (now (zs .entry)) m (now (pkinds .entry)) (now (lefts .entry)) (now (pzs .entry)) (now (rights .entry)) q (now (qlefts .entry)) (now (qzs .entry)) (now (qrights .entry))) (memoryOf (now (representatives .entry)) (now (offsets .entry)) (now (marks .entry)) (now (pairs .entry)) (now (answers .entry))) (memoryOf (now (representatives .exit)) (now (offsets .exit)) (now (marks .exit)) (now (pairs .exit)) (now (answers .exit))) r ⌝ }
 {
-    let checked = check(n, kinds, numbers, zs, m, pkinds, lefts, pzs, rights, q, qlefts, qzs, qrights, representatives.len(), offsets.len(), marks.len(), pairs.len(), answers.len());
+    let checked = check(
+        n,
+        kinds,
+        numbers,
+        zs,
+        m,
+        pkinds,
+        lefts,
+        pzs,
+        rights,
+        q,
+        qlefts,
+        qzs,
+        qrights,
+        representatives.len(),
+        offsets.len(),
+        marks.len(),
+        pairs.len(),
+        answers.len(),
+    );
     if let Checked::Refused(refusal, place) = checked {
         return Solved::Refused(refusal, place);
     }
-    solve_accepted(n, kinds, numbers, zs, m, pkinds, lefts, pzs, rights, q, qlefts, qzs, qrights, representatives, offsets, marks, pairs, answers)
+    solve_accepted(
+        n,
+        kinds,
+        numbers,
+        zs,
+        m,
+        pkinds,
+        lefts,
+        pzs,
+        rights,
+        q,
+        qlefts,
+        qzs,
+        qrights,
+        representatives,
+        offsets,
+        marks,
+        pairs,
+        answers,
+    )
 }

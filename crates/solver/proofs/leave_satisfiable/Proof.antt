@@ -31,11 +31,12 @@ answer-questions-requires : tie.Need-answer-questions-requires
 answer-questions-requires c κs =
     let s = c .before .before .before .before .before .before .before .before .before .before .before .before .before .before .before .before .before .before .before .before .before .before .before .before .before .before .before .before in
     record {
-        ready = ready _ (s .pre .0 .good) _ _ (s .pre .1);
-        questions = s .pre .0 .questions;
-        pairs-long = rw (c .before .before .before .before .pair-table .kept .1 .1 .1 .1 .1 .1 .1 .1 .1 .1 .1 .0) (s .pre .0 .pairs-room);
-        tells = rw (c .before .before .before .before .pair-table .ensures) (written-tells (setOf (s .args .n) (s .args .kinds .now) (s .args .numbers .now) (s .args .zs .now) (s .args .m) (s .args .pkinds .now) (s .args .lefts .now) (s .args .pzs .now) (s .args .rights .now)) (s .args .reps .now) (s .args .offs .now) (s .args .pairs .now));
-        answers-long = s .pre .0 .answers-room }
+      ready = ready _ (s .pre .0 .good) _ _ (s .pre .1);
+      questions = s .pre .0 .questions;
+      pairs-long = rw (c .before .before .before .before .pair-table .kept .1 .1 .1 .1 .1 .1 .1 .1 .1 .1 .1 .0) (s .pre .0 .pairs-room);
+      tells = rw (c .before .before .before .before .pair-table .ensures) (written-tells (setOf (s .args .n) (s .args .kinds .now) (s .args .numbers .now) (s .args .zs .now) (s .args .m) (s .args .pkinds .now) (s .args .lefts .now) (s .args .pzs .now) (s .args .rights .now)) (s .args .reps .now) (s .args .offs .now) (s .args .pairs .now));
+      answers-long = s .pre .0 .answers-room;
+    }
 
 -- src/lib.rt:146:1
 same-length : tie.Need-same-length

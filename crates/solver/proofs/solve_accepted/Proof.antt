@@ -48,9 +48,10 @@ slice-aggregate-leave-satisfiable-2 c = search needs
 leave-satisfiable-requires : tie.Need-leave-satisfiable-requires
 leave-satisfiable-requires c κs =
     let s = c .before .before .before .before .before .before .before .before .before .before .before .before .before .before .before .before .before .before .before .before .before .before .before .before .before .before .before .before .before .before .before in
-    let f = c .before .before .before .before .before .before .before .before .before .before .before .before .before .before .before .before .before .before .fill .ensures in
-    (record { good = s .pre .good; questions = s .pre .questions; reps-room = s .pre .reps-room; offs-room = s .pre .offs-room; marks-room = rw f (length-filled _ _ 1 (s .pre .marks-room)); pairs-room = s .pre .pairs-room; answers-room = s .pre .answers-room },
-    when-consistent _ (s .pre .good) (λ k h. rw f (filled-all _ _ 1 (s .pre .marks-room) k h)) (rw (c .before .before .before .before .before .before .before .if1 .taken) at (c .before .before .before .before .before .before .before .before .before .before .before .is-consistent .ensures)))
+    let f = c .before .before .before .before .before .before .before .before .before .before .before .before .before .before .before .before .before .before .fill .ensures in (
+      record { good = s .pre .good; questions = s .pre .questions; reps-room = s .pre .reps-room; offs-room = s .pre .offs-room; marks-room = rw f (length-filled _ _ 1 (s .pre .marks-room)); pairs-room = s .pre .pairs-room; answers-room = s .pre .answers-room },
+      when-consistent _ (s .pre .good) (λ k h. rw f (filled-all _ _ 1 (s .pre .marks-room) k h)) (rw (c .before .before .before .before .before .before .before .if1 .taken) at (c .before .before .before .before .before .before .before .before .before .before .before .is-consistent .ensures)),
+    )
 
 -- src/lib.rt:185:9
 same-length : tie.Need-same-length
@@ -97,9 +98,10 @@ leave-contradiction-requires : tie.Need-leave-contradiction-requires
 leave-contradiction-requires c κs =
     let s = c .before .before .before .before .before .before .before .before .before .before .before .before .before .before .before .before .before .before .before .before .before .before .before .before .before .before .before .before .before .before .before .before in
     let f = c .before .before .before .before .before .before .before .before .before .before .before .before .before .before .before .before .before .before .before .fill .ensures in
-    let few : s .args .n ≤ 512 = s .pre .good .few-terms in
-    (record { good = s .pre .good; questions = s .pre .questions; reps-room = s .pre .reps-room; offs-room = s .pre .offs-room; marks-room = rw f (length-filled _ _ 1 (s .pre .marks-room)); pairs-room = s .pre .pairs-room; answers-room = s .pre .answers-room },
-    ((λ k h. rw f (filled-all _ _ 1 (s .pre .marks-room) k h)), (omega (arith, few, c .before .before .before .before .before .before .before .before .before .before .before .before .is-consistent .kept .1 .1 .1 .1 .1 .1 .1 .1 .1 .1 .0), (omega (arith, few, c .before .before .before .before .before .before .before .before .before .before .before .before .is-consistent .kept .1 .1 .1 .1 .1 .1 .1 .1 .1 .1 .1 .0), omega (arith, few, c .before .before .before .before .before .before .before .before .before .before .before .before .is-consistent .kept .1 .1 .1 .1 .1 .1 .1 .1 .1 .1 .1 .1 .0)))))
+    let few : s .args .n ≤ 512 = s .pre .good .few-terms in (
+      record { good = s .pre .good; questions = s .pre .questions; reps-room = s .pre .reps-room; offs-room = s .pre .offs-room; marks-room = rw f (length-filled _ _ 1 (s .pre .marks-room)); pairs-room = s .pre .pairs-room; answers-room = s .pre .answers-room },
+      ((λ k h. rw f (filled-all _ _ 1 (s .pre .marks-room) k h)), (omega (arith, few, c .before .before .before .before .before .before .before .before .before .before .before .before .is-consistent .kept .1 .1 .1 .1 .1 .1 .1 .1 .1 .1 .0), (omega (arith, few, c .before .before .before .before .before .before .before .before .before .before .before .before .is-consistent .kept .1 .1 .1 .1 .1 .1 .1 .1 .1 .1 .1 .0), omega (arith, few, c .before .before .before .before .before .before .before .before .before .before .before .before .is-consistent .kept .1 .1 .1 .1 .1 .1 .1 .1 .1 .1 .1 .1 .0)))),
+    )
 
 -- src/lib.rt:175:1
 same-length-6 : tie.Need-same-length-6

@@ -1,0 +1,57 @@
+-- `reader::take::take_proposition` meets its contract: each return rewrites the definition with the tests that led there.
+use native.Mathlib.Omega.{arith}
+use borrow.Author.Tests.{le-leb, lt-leb}
+use lib.ListN.{length}
+use Rattle.tables.specs.Refusals.{propositionNameFault}
+use Rattle.text.specs.Reading.{frameFault}
+use Rattle.reader.specs.Taking.{empty, nonempty}
+use Rattle.reader.proofs.take.take_proposition.Statement.{statement}
+use Rattle.reader.proofs.take.take_proposition.Tie as tie
+
+returns : tie.Need-returns
+unfolding frameFault propositionNameFault
+returns c =
+    record {
+      room = tt;
+      fault = λ R k z n.
+          simp (nonempty (R .questions) (omega arith));
+    }
+
+returns-2 : tie.Need-returns-2
+unfolding frameFault propositionNameFault
+returns-2 c =
+    record {
+      room = tt;
+      fault = λ R k z n.
+          simp (empty (R .questions) (omega arith), le-leb 512 (length (R .propositions)) (omega arith));
+    }
+
+returns-3 : tie.Need-returns-3
+unfolding frameFault propositionNameFault
+returns-3 c =
+    record {
+      room = tt;
+      fault = λ R k z n.
+          simp (empty (R .questions) (omega arith), lt-leb 512 (length (R .propositions)) (omega arith), le-leb (length (R .terms)) (c .before .before .before .before .before .before .args .left) (omega arith));
+    }
+
+returns-4 : tie.Need-returns-4
+unfolding frameFault propositionNameFault
+returns-4 c =
+    record {
+      room = tt;
+      fault = λ R k z n.
+          simp (empty (R .questions) (omega arith), lt-leb 512 (length (R .propositions)) (omega arith), lt-leb (length (R .terms)) (c .before .before .before .before .before .before .before .before .args .left) (omega arith), le-leb (length (R .terms)) (c .before .before .before .before .before .before .before .before .args .right) (omega arith));
+    }
+
+returns-5 : tie.Need-returns-5
+unfolding frameFault propositionNameFault
+returns-5 c =
+    record {
+      room = omega arith;
+      fault = λ R k z n.
+          simp (empty (R .questions) (omega arith), lt-leb 512 (length (R .propositions)) (omega arith), lt-leb (length (R .terms)) (c .before .before .before .before .before .before .before .before .args .left) (omega arith), lt-leb (length (R .terms)) (c .before .before .before .before .before .before .before .before .args .right) (omega arith));
+    }
+
+pub take-proposition-spec : {M : Type 1} → statement M
+take-proposition-spec = tie.close (tie.spec returns returns-2 returns-3 returns-4 returns-5)
