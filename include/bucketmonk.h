@@ -1,0 +1,78 @@
+/* Bucketmonk: the proved solver for 2-pointer logic, for programs in C.
+ * Link libbucketmonk_c.a. No heap is used; one call needs at most 64 KiB of stack. Nothing is kept between calls, so calls with
+ * separate memory may run at the same time. */
+#ifndef BUCKETMONK_H
+#define BUCKETMONK_H
+
+#include <stddef.h>
+#include <stdint.h>
+
+/* At most so many terms, propositions and questions. */
+#define BUCKETMONK_MOST 512
+
+/* Kinds of terms. */
+#define BUCKETMONK_VARIABLE 0x01    /* the address of a variable; number 0 to 65535, z 0 */
+#define BUCKETMONK_AUXILIARY 0x02   /* an auxiliary; number 0 to 65535, z 0 */
+#define BUCKETMONK_DEREFERENCE 0x03 /* *(z + t); the number is that of t, an earlier term */
+
+/* Kinds of propositions. */
+#define BUCKETMONK_EQUALITY 0x11          /* left = z + right */
+#define BUCKETMONK_DISEQUALITY 0x12       /* left != z + right */
+#define BUCKETMONK_BLOCK_DISEQUALITY 0x13 /* the blocks of left and right differ; z 0 */
+
+/* What bucketmonk_solve returns. */
+#define BUCKETMONK_SATISFIABLE 0
+#define BUCKETMONK_CONTRADICTION 1
+/* Of a result above 1: the number of the refusal, 1 to 9, and the place of the first fault.
+ * 1, 2, 3: more than 512 terms, propositions, questions (place 512)
+ * 4: a dereference names a term not listed before it (place: the term)
+ * 5: an atom is listed twice (place: the second listing)
+ * 6: a proposition names a term not listed (place: the proposition)
+ * 7: a question names a term not listed (place: the question)
+ * 8: a table or lent array is too short (place 0)
+ * 9: a kind that does not exist, an atom number above 65535, or a field that is not 0 where its kind has none (place: the record) */
+#define BUCKETMONK_REFUSAL(result) ((unsigned)((result) >> 16))
+#define BUCKETMONK_PLACE(result) ((unsigned)((result) & 0xFFFF))
+
+/* Answers to questions. */
+#define BUCKETMONK_NEITHER 0
+#define BUCKETMONK_EQUAL 1
+#define BUCKETMONK_DIFFERENT 2
+#define BUCKETMONK_CONTRADICTORY 3 /* the set is contradictory */
+
+/* Bytes of the pair bits of n terms. */
+#define BUCKETMONK_PAIR_BYTES(n) (((size_t)(n) * (n) + 7) / 8)
+
+/* Solves the set of n terms, m propositions and q questions.
+ *
+ * Needs: every pointer is valid for the length given after it (in elements) and not null, also where the length is 0; the five lent
+ * arrays overlap nothing else. Nothing else is asked: every content of the tables and every length gets an answer.
+ * Tables, in columns: term k is kinds[k], numbers[k], zs[k]; proposition k is pkinds[k], lefts[k], pzs[k], rights[k]; question k asks
+ * qlefts[k] against qzs[k] + qrights[k]. Terms, propositions and questions are each numbered from 0.
+ * Lent: n representatives, n offsets, m marks, BUCKETMONK_PAIR_BYTES(n) pair bytes, q answers, or more.
+ *
+ * Leaves, where the set is satisfiable: for term k its representative (the lowest-numbered term of its class) and its offset from it;
+ * marks 0; bit i * n + j of the pair bytes (lowest bit of a byte first) 1 where term i is different from term j; for question k its
+ * answer. Where the set is contradictory: each term its own representative at offset 0; mark 1 for each proposition that is blamed;
+ * pair bits 0; answers 3. Cells beyond those needed are unchanged. A refused call changes nothing. */
+size_t bucketmonk_solve(
+    size_t n,
+    const uint8_t *kinds, size_t kinds_length,
+    const uint32_t *numbers, size_t numbers_length,
+    const int32_t *zs, size_t zs_length,
+    size_t m,
+    const uint8_t *pkinds, size_t pkinds_length,
+    const uint32_t *lefts, size_t lefts_length,
+    const int32_t *pzs, size_t pzs_length,
+    const uint32_t *rights, size_t rights_length,
+    size_t q,
+    const uint32_t *qlefts, size_t qlefts_length,
+    const int32_t *qzs, size_t qzs_length,
+    const uint32_t *qrights, size_t qrights_length,
+    uint32_t *representatives, size_t representatives_length,
+    int64_t *offsets, size_t offsets_length,
+    uint8_t *marks, size_t marks_length,
+    uint8_t *pairs, size_t pairs_length,
+    uint8_t *answers, size_t answers_length);
+
+#endif

@@ -1,0 +1,292 @@
+//! Random sets, whole and damaged, and full sets of several kinds.
+
+use second_solver::tables::{pair_bytes, Input};
+
+/// A generator of numbers with a fixed seed (xorshift).
+pub struct Numbers(pub u64);
+
+impl Numbers {
+    pub fn next(&mut self) -> u64 {
+        self.0 ^= self.0 << 13;
+        self.0 ^= self.0 >> 7;
+        self.0 ^= self.0 << 17;
+        self.0
+    }
+
+    pub fn below(&mut self, n: usize) -> usize {
+        (self.next() >> 11) as usize % n
+    }
+
+    pub fn one_in(&mut self, n: usize) -> bool {
+        self.below(n) == 0
+    }
+
+    pub fn offset(&mut self) -> i32 {
+        const OFTEN: [i32; 8] = [0, 0, 0, 1, -1, 4, i32::MIN, i32::MAX];
+        if self.one_in(8) {
+            self.next() as i32
+        } else {
+            OFTEN[self.below(OFTEN.len())]
+        }
+    }
+}
+
+/// The columns of a set, and how many cells of each lent array are missing.
+#[derive(Clone, Default, Debug)]
+pub struct Set {
+    pub n: usize,
+    pub m: usize,
+    pub q: usize,
+    pub term_kind: Vec<u8>,
+    pub term_number: Vec<u32>,
+    pub term_offset: Vec<i32>,
+    pub proposition_kind: Vec<u8>,
+    pub proposition_left: Vec<u32>,
+    pub proposition_offset: Vec<i32>,
+    pub proposition_right: Vec<u32>,
+    pub question_left: Vec<u32>,
+    pub question_offset: Vec<i32>,
+    pub question_right: Vec<u32>,
+    pub missing: [usize; 5],
+}
+
+impl Set {
+    pub fn term(&mut self, kind: u8, number: usize, offset: i32) -> usize {
+        self.term_kind.push(kind);
+        self.term_number.push(number as u32);
+        self.term_offset.push(offset);
+        self.n += 1;
+        self.n - 1
+    }
+
+    pub fn proposition(&mut self, kind: u8, left: usize, offset: i32, right: usize) {
+        self.proposition_kind.push(kind);
+        self.proposition_left.push(left as u32);
+        self.proposition_offset.push(offset);
+        self.proposition_right.push(right as u32);
+        self.m += 1;
+    }
+
+    pub fn question(&mut self, left: usize, offset: i32, right: usize) {
+        self.question_left.push(left as u32);
+        self.question_offset.push(offset);
+        self.question_right.push(right as u32);
+        self.q += 1;
+    }
+
+    pub fn input(&self) -> Input<'_> {
+        Input {
+            n: self.n,
+            m: self.m,
+            q: self.q,
+            term_kind: &self.term_kind,
+            term_number: &self.term_number,
+            term_offset: &self.term_offset,
+            proposition_kind: &self.proposition_kind,
+            proposition_left: &self.proposition_left,
+            proposition_offset: &self.proposition_offset,
+            proposition_right: &self.proposition_right,
+            question_left: &self.question_left,
+            question_offset: &self.question_offset,
+            question_right: &self.question_right,
+        }
+    }
+
+    /// The cells that each lent array needs.
+    pub fn needed(&self) -> [usize; 5] {
+        [self.n, self.n, self.m, pair_bytes(self.n.min(1024)), self.q]
+    }
+}
+
+fn kind_of_proposition(r: &mut Numbers) -> u8 {
+    [0x11, 0x11, 0x11, 0x12, 0x12, 0x13][r.below(6)]
+}
+
+fn propose(r: &mut Numbers, set: &mut Set, count: usize) {
+    for _ in 0..count {
+        let kind = kind_of_proposition(r);
+        let offset = if kind == 0x13 { 0 } else { r.offset() };
+        let (left, right) = (r.below(set.n), r.below(set.n));
+        set.proposition(kind, left, offset, right);
+    }
+}
+
+fn ask(r: &mut Numbers, set: &mut Set, count: usize) {
+    for _ in 0..count {
+        let (left, offset, right) = (r.below(set.n), r.offset(), r.below(set.n));
+        set.question(left, offset, right);
+    }
+}
+
+/// A small set: atoms and dereferences, few propositions and questions.
+pub fn small(r: &mut Numbers) -> Set {
+    let mut set = Set::default();
+    let terms = r.below(10);
+    let mut atoms = 0;
+    for _ in 0..terms {
+        if set.n > 0 && !r.one_in(3) {
+            let (inner, offset) = (r.below(set.n), r.offset());
+            set.term(3, inner, offset);
+        } else {
+            let kind = if r.one_in(4) { 1 } else { 2 };
+            set.term(kind, atoms, 0);
+            atoms += if r.one_in(3) { 4096 } else { 1 };
+        }
+    }
+    if set.n > 0 {
+        let count = r.below(8);
+        propose(r, &mut set, count);
+        let count = r.below(8);
+        ask(r, &mut set, count);
+    }
+    set
+}
+
+fn cut<A>(r: &mut Numbers, column: &mut Vec<A>) {
+    if r.one_in(2) {
+        column.pop();
+    } else {
+        column.clear();
+    }
+}
+
+/// Damages a set in one place; some damages leave it acceptable.
+pub fn damage(r: &mut Numbers, set: &mut Set) {
+    match r.below(20) {
+        0 => set.n = 513 + r.below(3),
+        1 => set.m = 513 + r.below(3),
+        2 => set.q = 513 + r.below(3),
+        3 => cut(r, &mut set.term_kind),
+        4 => cut(r, &mut set.term_number),
+        5 => cut(r, &mut set.term_offset),
+        6 => cut(r, &mut set.proposition_kind),
+        7 => cut(r, &mut set.proposition_left),
+        8 => cut(r, &mut set.proposition_offset),
+        9 => cut(r, &mut set.proposition_right),
+        10 => cut(r, &mut set.question_left),
+        11 => cut(r, &mut set.question_offset),
+        12 => cut(r, &mut set.question_right),
+        13 => {
+            let k = r.below(5);
+            set.missing[k] = if r.one_in(2) { 1 } else { usize::MAX };
+        }
+        14 if set.n > 0 => {
+            let k = r.below(set.n);
+            set.term_kind[k] = r.next() as u8 % 5;
+        }
+        15 if set.n > 0 => {
+            let k = r.below(set.n);
+            set.term_number[k] = if r.one_in(2) { r.below(set.n + 1) as u32 } else { 65_535 + r.below(2) as u32 };
+        }
+        16 if set.n > 0 => {
+            let k = r.below(set.n);
+            set.term_offset[k] = r.offset();
+        }
+        17 if set.m > 0 => {
+            let k = r.below(set.m);
+            match r.below(4) {
+                0 => set.proposition_kind[k] = 0x10 + r.below(5) as u8,
+                1 => set.proposition_left[k] = set.n as u32,
+                2 => set.proposition_right[k] = r.next() as u32,
+                _ => set.proposition_offset[k] = r.offset(),
+            }
+        }
+        18 if set.q > 0 => {
+            let k = r.below(set.q);
+            if r.one_in(2) {
+                set.question_left[k] = set.n as u32;
+            } else {
+                set.question_right[k] = r.next() as u32;
+            }
+        }
+        _ if set.n > 1 => {
+            let (from, to) = (r.below(set.n), r.below(set.n));
+            set.term_kind[to] = set.term_kind[from];
+            set.term_number[to] = set.term_number[from];
+            set.term_offset[to] = set.term_offset[from];
+        }
+        _ => {}
+    }
+}
+
+/// Two chains of dereferences whose starts are equal.
+pub fn chains(size: usize) -> Set {
+    let mut set = Set::default();
+    let (mut a, mut b) = (set.term(2, 0, 0), set.term(2, 1, 0));
+    set.proposition(0x11, a, 0, b);
+    while set.n + 1 < size {
+        a = set.term(3, a, 8);
+        b = set.term(3, b, 8);
+    }
+    set
+}
+
+/// As `chains`, each chain also tied to the other through an earlier term.
+pub fn tied_chains(size: usize) -> Set {
+    let mut set = Set::default();
+    let length = size / 4;
+    let first: Vec<usize> = (0..length).map(|k| set.term(2, k, 0)).collect();
+    let second: Vec<usize> = (0..length).map(|k| set.term(2, length + k, 0)).collect();
+    let read_first: Vec<usize> = first.iter().rev().map(|t| (*t, set.term(3, *t, 0)).1).collect();
+    let read_second: Vec<usize> = second.iter().rev().map(|t| (*t, set.term(3, *t, 0)).1).collect();
+    set.proposition(0x11, first[0], 0, second[0]);
+    for k in 1..length {
+        set.proposition(0x11, first[k], 4, read_first[length - k]);
+        set.proposition(0x11, second[k], 4, read_second[length - k]);
+    }
+    set
+}
+
+/// Classes of four terms, with disequalities between them.
+pub fn classes(r: &mut Numbers, size: usize) -> Set {
+    let mut set = Set::default();
+    for k in 0..size {
+        set.term(if k % 8 == 0 { 1 } else { 2 }, k, 0);
+    }
+    for k in 0..size {
+        if k % 4 != 0 && set.m < 512 {
+            set.proposition(0x11, k, 4, k - 1);
+        }
+    }
+    while set.m < size {
+        let (left, right) = (r.below(size), r.below(size));
+        if left / 4 != right / 4 {
+            let offset = r.offset();
+            set.proposition(0x12, left, offset, right);
+        }
+    }
+    set
+}
+
+/// One class of all terms, at the ends of the range of offsets.
+pub fn one_class(size: usize) -> Set {
+    let mut set = Set::default();
+    for k in 0..size {
+        set.term(2, k, 0);
+        if k > 0 {
+            set.proposition(0x11, k, i32::MIN, k - 1);
+        }
+    }
+    set
+}
+
+/// Random terms and propositions, contradictory as a rule.
+pub fn tangle(r: &mut Numbers, size: usize) -> Set {
+    let mut set = Set::default();
+    for k in 0..size {
+        if k > 0 && !r.one_in(3) {
+            let (inner, offset) = (r.below(k), r.offset());
+            set.term(3, inner, offset);
+        } else {
+            set.term(if r.one_in(6) { 1 } else { 2 }, k, 0);
+        }
+    }
+    propose(r, &mut set, size);
+    set
+}
+
+/// Fills a set's questions up to `size`.
+pub fn questions(r: &mut Numbers, set: &mut Set, size: usize) {
+    let count = size - set.q;
+    ask(r, set, count);
+}
