@@ -1,4 +1,4 @@
-// The pair table and the answers to questions, for an accepted set and its labelling.
+// The pair table and the answers to questions, for an accepted set and its labelling. Public for the crate `solver`.
 mod apart;
 mod base;
 mod bits;

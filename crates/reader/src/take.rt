@@ -107,7 +107,8 @@ fn take_question(counts: Counts, left: u32, right: u32) -> Taken
     Taken::Accepted
 }
 
-// A frame after the records R read so far: the counts are theirs, and the two columns list their terms.
+// A frame after the records R read so far: the counts are theirs, and the two columns list their terms. Public for other readers of
+// frames in this project; `read` has made room before it calls it.
 pub fn take_frame(counts: Counts, kinds: &[u8], numbers: &[u32], frame: Frame) -> Taken
     requires { ⌜ (512 ≤ length (now kinds)) × (512 ≤ length (now numbers)) ⌝ }
     ensures { λ r. ⌜ Took (groupCount counts frame) r ((R : Records) → Counted counts R → Listing (now (kinds .entry)) (now (numbers .entry)) (R .terms) → r ≡ taken (frameRefusal R (meaning frame))) ⌝ }

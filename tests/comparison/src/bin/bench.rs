@@ -1,5 +1,5 @@
 //! The proved solver beside the second solver, in one run: the time of each on full sets of four families and its ratio, how the time
-//! grows from 128 to 256 to 512 terms, and blame on a contradictory full set beside one verdict on it.
+//! grows from 128 to 256 to 512 terms, and blame on a contradictory full set beside one verdict.
 
 use comparison::proved;
 use comparison::sets::{self, Numbers, Set};
@@ -49,5 +49,8 @@ fn main() {
     set.proposition(0x11, 0, 1, 1);
     let satisfiable = time(proved::solve, &sets::one_class(512), 5).0;
     let (blame, verdict) = time(proved::solve, &set, 2);
-    println!("blame        512 terms  {} propositions: {:.3} ms, {:.0} times a satisfiable set of the same size ({verdict:?})", set.m, blame * 1e3, blame / satisfiable);
+    println!(
+        "blame        {} terms {} propositions: {:.3} ms, {:.3} ms for each of {} verdicts, {:.0} times a satisfiable set of the kind solved whole ({verdict:?})",
+        set.n, set.m, blame * 1e3, blame * 1e3 / (set.m + 1) as f64, set.m + 1, blame / satisfiable
+    );
 }
