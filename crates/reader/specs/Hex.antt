@@ -1,21 +1,19 @@
 -- Laws of digits, of the bytes that a line spells, and of the numbers that bytes spell.
 use Prim.Native.Nat.{ℕ, zero, suc, _+_, _*_, _-_, _^_, _≤_, _<_}
 use mathlib.Core.Path.{_≡_, refl, ap, sym, _∙_}
-use mathlib.Core.Bool.{Bool, true, false, _&&_}
 use mathlib.Core.List.{List, [], _∷_, _++_, append-assoc, append-nil}
 use mathlib.Core.Option.{Option, none, some}
 use native.Mathlib.Omega.{arith}
 use native.Mathlib.Nat.{pow-suc, pow-le-pow-right, mul-assoc}
-use borrow.Author.Tests.{leb-true, lt-ltb, le-ltb}
-use lib.Dec.{leb}
+use borrow.Author.Tests.{lt-ltb, le-ltb}
 use lib.IntN.{pos, negsuc, _-ℤ_}
 use mir.Syntax.{w64}
 use mir.Val.{toZ}
 use native.Mathlib.Numerals.{add-one}
 use lib.ListN.{length, take, drop, set, getD, length-append, drop-of-length-le}
 use lib.Seq.{drop-cons, take-suc, take-suc-set}
-use Rattle.lists.specs.Search.{choose}
 use Rattle.text.specs.Lines.{digit, consByte, bytesOf, big, signed}
+use Rattle.text.specs.Laws.{digit-only}
 use Rattle.reader.specs.declared.Spelled.the-variants.{Value, Bad}
 use Rattle.reader.specs.Meaning.{spelled, pairByte}
 
@@ -29,28 +27,7 @@ spelled-bad (some w) e = let z : _≡_ {A = ℕ} 0 1 = cc in absurd (omega arith
 
 -- a digit's value is below 16
 pub digit-below : (c v : ℕ) → digit c ≡ some v → v < 16
-unfolding digit
-digit-below c v = low (leb 48 c) (leb c 57) refl refl
-  where
-    high : (a b : Bool) → leb 65 c ≡ a → leb c 70 ≡ b → choose (a && b) (some (c - 55)) none ≡ some v → v < 16
-    high true true p q e =
-        let h = leb-true c 70 q in
-        let f : c - 55 ≡ v = cc in
-        omega arith
-    high true false p q e = let z : _≡_ {A = ℕ} 0 1 = cc in absurd (omega arith)
-    high false b p q e = let z : _≡_ {A = ℕ} 0 1 = cc in absurd (omega arith)
-
-    low : (a b : Bool)
-        → leb 48 c ≡ a
-        → leb c 57 ≡ b
-        → choose (a && b) (some (c - 48)) (choose (leb 65 c && leb c 70) (some (c - 55)) none) ≡ some v
-        → v < 16
-    low true true p q e =
-        let h = leb-true c 57 q in
-        let f : c - 48 ≡ v = cc in
-        omega arith
-    low true false p q e = high (leb 65 c) (leb c 70) refl refl e
-    low false b p q e = high (leb 65 c) (leb c 70) refl refl e
+digit-below c v e = digit-only c v e .0
 
 -- bytes before those that the rest of a line spells
 abbrev pub prefixed : List ℕ → Option (List ℕ) → Option (List ℕ)
@@ -130,25 +107,6 @@ bytesOf-odd (suc n) (h ∷ l ∷ cs) e = rw (bytesOf-odd n cs (omega arith)) (wi
     without none b = refl
     without (some a) none = refl
     without (some a) (some b) = refl
-
-pub bytesOf-length : (cs bs : List ℕ) → bytesOf cs ≡ some bs → 2 * length bs ≡ length cs
-unfolding bytesOf
-bytesOf-length [] bs e = let f : bs ≡ [] = cc in rw f
-bytesOf-length (h ∷ []) bs e = let z : _≡_ {A = ℕ} 0 1 = cc in absurd (omega arith)
-bytesOf-length (h ∷ l ∷ cs) bs e = go (digit h) (digit l) (bytesOf cs) refl (λ ds q. bytesOf-length cs ds q) e
-  where
-    go : (a b : Option ℕ) (r : Option (List ℕ))
-        → bytesOf cs ≡ r
-        → ((ds : List ℕ) → bytesOf cs ≡ some ds → 2 * length ds ≡ length cs)
-        → consByte a b r ≡ some bs
-        → 2 * length bs ≡ length (h ∷ l ∷ cs)
-    go none b r q ih e = let z : _≡_ {A = ℕ} 0 1 = cc in absurd (omega arith)
-    go (some a) none r q ih e = let z : _≡_ {A = ℕ} 0 1 = cc in absurd (omega arith)
-    go (some a) (some b) none q ih e = let z : _≡_ {A = ℕ} 0 1 = cc in absurd (omega arith)
-    go (some a) (some b) (some ds) q ih e =
-        let f : bs ≡ (16 * a + b) ∷ ds = cc in
-        let i = ih ds q in
-        rw f (omega arith)
 
 -- one byte more
 pub big-more : (bs : List ℕ) (b : ℕ) → big (bs ++ (b ∷ [])) ≡ big bs * 256 + b

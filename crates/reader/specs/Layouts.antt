@@ -1,7 +1,6 @@
 -- Laws of the frames' layouts.
-use Prim.Native.Nat.{ℕ, _-_, _<_, _≤_}
+use Prim.Native.Nat.{ℕ, _-_, _<_}
 use mathlib.Core.Path.{_≡_, refl, sym}
-use mathlib.Core.Bool.{Bool, true, false}
 use mathlib.Core.List.{List, [], _∷_}
 use mathlib.Core.Option.{Option, none, some}
 use native.Mathlib.Omega.{arith}
@@ -11,9 +10,7 @@ use lib.ListN.{length, take, drop, getD, length-drop}
 use lib.Seq.{take-all}
 use Rattle.lists.specs.Search.{choose}
 use Rattle.tables.specs.Records.{variableKind, auxiliaryKind, derefKind, equalityKind, disequalityKind, blockDisequalityKind, questionKind}
-use Rattle.text.specs.Lines.{bytesOf}
 use Rattle.text.specs.Frames.{Frame, Layout, layouts, frameBy, frameOfBytes}
-use Rattle.reader.specs.Hex.{bytesOf-length}
 
 -- the frame of a layout, if there are as many bytes as it wants
 abbrev pub framed : Layout → List ℕ → Option Frame
@@ -24,34 +21,6 @@ framed-right l bs e = rw (eq-eqb (length bs) (l .size) e)
 
 pub framed-wrong : (l : Layout) (bs : List ℕ) → (length bs ≡ l .size → ⊥) → framed l bs ≡ none
 framed-wrong l bs n = rw (ne-eqb (length bs) (l .size) n)
-
--- every layout wants at most n bytes
-abbrev Within : ℕ → List Layout → Type 0
-Within n [] = Unit
-Within n (l ∷ ls) = (l .size ≤ n) × Within n ls
-
-frameBy-long : (n : ℕ) (ls : List Layout) → Within n ls → (k : ℕ) (bs : List ℕ) → n < length bs → frameBy ls k bs ≡ none
-unfolding frameBy
-frameBy-long n [] w k bs h = refl
-frameBy-long n (l ∷ ls) w k bs h =
-    let e : framed l bs ≡ none = framed-wrong l bs (λ f. omega arith) in
-    rw (e, frameBy-long n ls (w .1) k bs h) (same (eqb (l .kind) k))
-  where
-    same : (b : Bool) → _≡_ {A = Option Frame} (choose b none none) none
-    same true = refl
-    same false = refl
-
--- a line longer than the longest frame holds none
-pub line-long : (cs : List ℕ) → 18 < length cs → frameOfBytes (bytesOf cs) ≡ none
-unfolding layouts
-line-long cs h = go (bytesOf cs) refl
-  where
-    go : (o : Option (List ℕ)) → bytesOf cs ≡ o → frameOfBytes o ≡ none
-    go none e = refl
-    go (some []) e = refl
-    go (some (k ∷ bs)) e =
-        let l = bytesOf-length cs (k ∷ bs) e in
-        frameBy-long 8 layouts (omega arith) k bs (omega arith)
 
 -- a frame's bytes: the kind k, and the fields
 module _ (bytes : List ℕ) (k : ℕ) (some-byte : 0 < length bytes) (kind-is : getD bytes 0 0 ≡ k) where

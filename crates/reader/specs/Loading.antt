@@ -1,13 +1,12 @@
 -- Lines taken one after another into the columns.
 use Prim.Native.Nat.{ℕ, _+_, _<_, _≤_}
 use mathlib.Core.Path.{_≡_, refl, ap, _∙_}
-use mathlib.Core.Bool.{true, false}
+use mathlib.Core.Bool.{true}
 use mathlib.Core.List.{List}
 use mathlib.Core.Option.{Option, none, some}
 use native.Mathlib.Omega.{arith}
 use lib.ListN.{length}
 use Rattle.types.specs.declared.Refusal.{Refusal}
-use Rattle.types.specs.declared.Refusal.the-variants as refusals
 use Rattle.tables.specs.Limits.{most}
 use Rattle.text.specs.Lines.{bytesOf}
 use Rattle.text.specs.Frames as frames
@@ -83,10 +82,6 @@ module _ (R : Records) (cs : List ℕ) (f : Frame) (judged : meaning f ≡ frame
       go (some g) none m p q =
           let s : stepFrame R (some g) ≡ go-on (withFrame R g) = rw p in
           (g, m, step-judged ∙ ap (stepFrame R) m ∙ s)
-
-pub step-unended : (R : Records) (cs : List ℕ) → step R (record { characters = cs; ended = false }) ≡ refuse refusals.Malformed
-unfolding step frameOf
-step-unended R cs = refl
 
 -- an accepted frame whose record is stored
 pub went : (R : Records) (C : Columns) (cs : List ℕ) (f : Frame) (c : Counts) (E : Columns) (r : Counts) (D : Columns)

@@ -1,7 +1,7 @@
 -- The lines of a text up to a place, taken into the columns.
 use Prim.Native.Nat.{ℕ, zero, suc, _+_, _-_, _<_, _≤_}
 use mathlib.Core.Path.{_≡_, refl, ap, sym, _∙_}
-use mathlib.Core.Bool.{Bool, true, false}
+use mathlib.Core.Bool.{true}
 use mathlib.Core.List.{List, [], _∷_}
 use native.Mathlib.Omega.{arith}
 use native.Mathlib.Numerals.{add-one}
@@ -9,10 +9,10 @@ use borrow.Author.Tests.{ltb-true}
 use lib.ListN.{length, take, drop, length-drop, drop-of-length-le}
 use lib.Seq.{length-take-le, drop-drop}
 use Rattle.types.specs.declared.Refusal.{Refusal}
-use Rattle.types.specs.declared.Refusal.the-variants.{Malformed}
 use Rattle.text.specs.Lines.{Line, linesOf}
-use Rattle.text.specs.Frames.{frameOf}
+use Rattle.text.specs.FrameLaws.{line-framed}
 use Rattle.text.specs.Reading.{Records, nothing, accepted, refused, refuse, go-on, step, readLines, reading, lineStart}
+use Rattle.text.specs.Laws.{step-frame}
 use Rattle.reader.specs.declared.Counts.{Counts}
 use Rattle.reader.specs.declared.Loaded.the-variants as loadeds
 use Rattle.reader.specs.LineEnds.{linesOf-nil, lineOf, lineEnd, end-after, end-within, linesOf-at}
@@ -60,15 +60,7 @@ module _ (k : ℕ) (R : Records) (l : Line) (ls : List Line) where
 
 -- an accepted line has its LF
 step-ended : (R S : Records) (l : Line) → step R l ≡ go-on S → l .ended ≡ true
-unfolding step frameOf
-step-ended R S l e = go (l .ended) refl
-  where
-    go : (b : Bool) → l .ended ≡ b → b ≡ true
-    go true f = refl
-    go false f =
-        let g : step R l ≡ refuse Malformed = rw f in
-        let z : _≡_ {A = ℕ} 0 1 = cc in
-        absurd (omega arith)
+step-ended R S l e = let a = step-frame R S l e in line-framed l (a .0) (a .1) .0
 
 lineStart-next : (ls : List Line) (k : ℕ) (l : Line) (rest : List Line) → drop k ls ≡ l ∷ rest → lineStart ls (suc k) ≡ lineStart ls k + (length (l .characters) + 1)
 unfolding lineStart

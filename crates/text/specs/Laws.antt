@@ -1,19 +1,23 @@
--- The digits are the sixteen of paper 01, and a refusal's place is the number of a line.
-use Prim.Native.Nat.{ℕ, zero, suc, _+_, _-_, _<_, _≤_}
-use mathlib.Core.Path.{_≡_, refl, sym, _∙_, ap}
-use mathlib.Core.Bool.{Bool, true, false, _&&_}
+-- The digits are the sixteen of paper 01; an accepted line holds a frame without fault; a refusal's place is the number of a line.
+use Prim.Native.Nat.{ℕ, suc, _+_, _-_, _<_, _≤_}
+use mathlib.Core.Path.{_≡_, refl, sym, ap}
+use mathlib.Core.Bool.{Bool, true, false, not, _&&_, _||_}
 use mathlib.Core.List.{List, [], _∷_}
 use mathlib.Core.Option.{Option, none, some}
 use native.Mathlib.Omega.{arith}
 use lib.Dec.{leb, ltb}
 use lib.ListN.{length}
-use borrow.Author.Tests.{leb-true, le-leb, lt-leb, ltb-true, ltb-false, lt-ltb, le-ltb}
+use borrow.Author.Tests.{leb-true, leb-false, le-leb, lt-leb, ltb-true, ltb-false, lt-ltb, le-ltb}
 use Rattle.lists.specs.Search.{choose}
-use Rattle.closure.specs.Closure.{and-true, both-true}
+use Rattle.closure.specs.Closure.{and-true}
 use Rattle.types.specs.declared.Refusal.{Refusal}
-use Rattle.tables.specs.Refusals.{Fault}
+use Rattle.types.specs.declared.Refusal.the-variants.{TooManyTerms, TooManyPropositions, TooManyQuestions, Malformed, GroupOrder}
+use Rattle.tables.specs.Limits.{most}
+use Rattle.tables.specs.Refusals.{Fault, orElse, refuseIf, termNameFault, propositionNameFault, questionNameFault}
+use Rattle.tables.specs.Accepted.{orElse-none, refuseIf-none}
 use Rattle.text.specs.Lines.{Line, digit, digitOf}
-use Rattle.text.specs.Reading.{Records, Reading, accepted, refused, Step, refuse, go-on, step, after, readLines}
+use Rattle.text.specs.Frames.{Frame, term, proposition, question, frameOf}
+use Rattle.text.specs.Reading.{Records, refused, isEmpty, full, frameFault, withFrame, Step, refuse, go-on, stepFault, stepFrame, step, after, readLines}
 
 -- each digit's value
 pub digit-value : (v : ℕ) → v < 16 → digit (digitOf v) ≡ some v
@@ -61,6 +65,53 @@ digit-only c v = first (leb 48 c && leb c 57) refl (leb 65 c && leb c 70) refl
         let is : c - 55 ≡ v = cc in
         (omega arith, rw (le-ltb v 10 (omega arith)) (omega arith))
     first false e false f s = let z : _≡_ {A = ℕ} 0 1 = cc in absurd (omega arith)
+
+not-full : {A : Type 0} (l : List A) (r : Refusal) (o : Option Refusal) → orElse (refuseIf (full l) r) o ≡ none → (length l < most) × (o ≡ none)
+not-full l r o e =
+    let a = orElse-none (refuseIf (full l) r) o e in
+    (leb-false most (length l) (refuseIf-none (full l) r (a .0)), a .1)
+
+-- an accepted line: its frame, which has no fault after the records R, and the records with it
+pub step-frame : (R S : Records) (l : Line) → step R l ≡ go-on S → (f : Frame) × (frameOf l ≡ some f) × (frameFault R f ≡ none) × (S ≡ withFrame R f)
+unfolding step
+step-frame R S l = go (frameOf l) refl
+  where
+    fault : (f : Frame) (o : Option Refusal) → stepFault R f o ≡ go-on S → (o ≡ none) × (S ≡ withFrame R f)
+    fault f none e = (refl, cc)
+    fault f (some r) e = let z : _≡_ {A = ℕ} 0 1 = cc in absurd (omega arith)
+
+    go : (o : Option Frame) → frameOf l ≡ o → stepFrame R o ≡ go-on S → (f : Frame) × (o ≡ some f) × (frameFault R f ≡ none) × (S ≡ withFrame R f)
+    go none e s = let z : _≡_ {A = ℕ} 0 1 = cc in absurd (omega arith)
+    go (some f) e s = let r = fault f (frameFault R f) s in (f, refl, r .0, r .1)
+
+-- what a frame without fault has
+abbrev pub Admitted : Records → Frame → Type 0
+Admitted R (term r) =
+    (isEmpty (R .propositions) ≡ true) × (isEmpty (R .questions) ≡ true) × (length (R .terms) < most) × (termNameFault (R .terms) r ≡ none)
+Admitted R (proposition p) = (length (R .propositions) < most) × (propositionNameFault (length (R .terms)) p ≡ none)
+Admitted R (question q) = (length (R .questions) < most) × (questionNameFault (length (R .terms)) q ≡ none)
+
+pub frame-admitted : (R : Records) (f : Frame) → frameFault R f ≡ none → Admitted R f
+unfolding frameFault
+frame-admitted R (term r) e =
+    let a = orElse-none (refuseIf (not (isEmpty (R .propositions)) || not (isEmpty (R .questions))) GroupOrder) _ e in
+    let g = groups (isEmpty (R .propositions)) (isEmpty (R .questions)) (refuseIf-none _ GroupOrder (a .0)) in
+    let m = not-full (R .terms) TooManyTerms (termNameFault (R .terms) r) (a .1) in
+    (g .0, g .1, m .0, m .1)
+  where
+    groups : (a b : Bool) → (not a || not b) ≡ false → (a ≡ true) × (b ≡ true)
+    groups true true e = (refl, refl)
+    groups true false e = (refl, sym e)
+    groups false b e = (sym e, cc)
+frame-admitted R (proposition p) e =
+    not-full (R .propositions) TooManyPropositions (propositionNameFault (length (R .terms)) p)
+    (orElse-none (refuseIf (not (isEmpty (R .questions))) GroupOrder) _ e .1)
+frame-admitted R (question q) e = not-full (R .questions) TooManyQuestions (questionNameFault (length (R .terms)) q) e
+
+-- a line without its LF holds no frame
+pub step-unended : (R : Records) (cs : List ℕ) → step R (record { characters = cs; ended = false }) ≡ refuse Malformed
+unfolding step frameOf
+step-unended R cs = refl
 
 -- the place of a refusal is the number of one of the lines
 pub refused-line : (k : ℕ) (R : Records) (ls : List Line) (f : Fault) → readLines k R ls ≡ refused f → (k ≤ f .place) × (f .place < k + length ls)

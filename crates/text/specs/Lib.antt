@@ -1,7 +1,10 @@
--- Lines and frames (Lines, Frames), what the reader answers (Reading), what the program writes (Output), and paper 01's whole case.
+-- Lines and frames (Lines, Frames), what the reader answers (Reading), what the program writes (Output), and paper 01's whole case;
+-- laws of frames (FrameLaws) and of the reader's steps (Laws), and how long an accepted text is (Size).
 pub mod Lines
 pub mod Frames
 pub mod Reading
 pub mod Output
+pub mod FrameLaws
 pub mod Laws
+pub mod Size
 pub mod WholeCase

@@ -3,7 +3,7 @@ use borrow.Author.Tests.{not-true, not-false}
 use mathlib.Core.Path.{sym}
 use native.Mathlib.Omega.{arith}
 use lib.Seq.{length-take-le}
-use Rattle.reader.specs.Layouts.{line-long}
+use Rattle.text.specs.FrameLaws.{line-long}
 use borrow.Author.Needs.{needs}
 use Rattle.reader.proofs.line.judge_line.Statement.{statement}
 use Rattle.reader.proofs.line.judge_line.Tie as tie

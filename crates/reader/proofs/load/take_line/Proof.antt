@@ -2,7 +2,8 @@
 use mathlib.Core.Path.{sym, _∙_}
 use borrow.Author.Tests.{not-true, not-false}
 use Rattle.reader.specs.Columns.{listing-written}
-use Rattle.reader.specs.Loading.{step-unended, step-refused, went}
+use Rattle.text.specs.Laws.{step-unended}
+use Rattle.reader.specs.Loading.{step-refused, went}
 use borrow.Author.Needs.{needs}
 use Rattle.reader.proofs.load.take_line.Statement.{statement}
 use Rattle.reader.proofs.load.take_line.Tie as tie
