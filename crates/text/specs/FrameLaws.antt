@@ -50,12 +50,12 @@ bytesOf-below (h ∷ l ∷ cs) bs e =
     rw (r .6) (omega arith, bytesOf-below cs (r .2) (r .5))
 
 -- what holds of every layout
-abbrev pub Each : (Layout → Type 0) → List Layout → Type 0
+abbrev Each : (Layout → Type 0) → List Layout → Type 0
 Each P [] = Unit
 Each P (l ∷ ls) = P l × Each P ls
 
 -- what each layout's frame of so many bytes has, a frame has
-pub frameBy-each : (P : Frame → Type 0) (ls : List Layout) (k : ℕ) (bs : List ℕ)
+frameBy-each : (P : Frame → Type 0) (ls : List Layout) (k : ℕ) (bs : List ℕ)
     → Each (λ l. length bs ≡ l .size → P (l .frame bs)) ls
     → (f : Frame)
     → frameBy ls k bs ≡ some f
