@@ -46,7 +46,7 @@ labelFrames t [] os = []
 labelFrames t (r ∷ rs) [] = []
 labelFrames t (r ∷ rs) (o ∷ os) = labelFrame t r o ++ labelFrames (suc t) rs os
 
-abbrev blameIf : ℕ → ℕ → List ℕ
+abbrev pub blameIf : ℕ → ℕ → List ℕ
 blameIf p zero = []
 blameIf p (suc m) = blameFrame p
 

@@ -1,4 +1,6 @@
 // The types of the library's answers. specs/Numbers.antt gives the numbers of paper 01 for each case.
+ghost use mathlib.Core.Path.{_≡_};
+ghost use Rattle.types.specs.Numbers.{refusalNumber};
 
 // The verdict on an accepted set.
 pub enum Verdict {
@@ -56,3 +58,21 @@ pub struct PropositionNumber(pub usize);
 
 // A number in the table of questions.
 pub struct QuestionNumber(pub usize);
+
+// The number of a refusal.
+pub fn refusal_number(r: Refusal) -> u8
+    ensures { λ k. ⌜ k ≡ refusalNumber r ⌝ }
+{
+    match r {
+        Refusal::TooManyTerms => 1,
+        Refusal::TooManyPropositions => 2,
+        Refusal::TooManyQuestions => 3,
+        Refusal::InnerNotListed => 4,
+        Refusal::AtomListedTwice => 5,
+        Refusal::PropositionTermNotListed => 6,
+        Refusal::QuestionTermNotListed => 7,
+        Refusal::TooShort => 8,
+        Refusal::Malformed => 9,
+        Refusal::GroupOrder => 10,
+    }
+}
