@@ -101,6 +101,27 @@ rounds l = total l
 unfoldable pub closure : List Term → Facts → List Label
 closure ts F = let l = joinAll (own 0 (length ts)) (F .equal) in close (derefs ts) (rounds l) l
 
+length-joinAll : (l : List Label) (cs : List Comparison) → length (joinAll l cs) ≡ length l
+unfolding joinAll
+length-joinAll l [] = refl
+length-joinAll l (c ∷ cs) = length-joinAll (join l (c .left) (c .offset) (c .right)) cs ∙ length-join l (c .left) (c .offset) (c .right)
+
+length-close : (ds : List Deref) (k : ℕ) (l : List Label) → length (close ds k l) ≡ length l
+unfolding close
+length-close ds zero l = refl
+length-close ds (suc k) l = go (findPair (unjoined (placed l)) ds) (λ m. length-close ds k m)
+  where
+    go : (o : Option (Deref × Deref)) → ((m : List Label) → length (close ds k m) ≡ length m) → length (continue l o (λ m. close ds k m)) ≡ length l
+    go none ih = refl
+    go (some (x, y)) ih = ih (join l (x .term) (pos 0) (y .term)) ∙ length-join l (x .term) (pos 0) (y .term)
+
+-- a label for each term
+pub length-closure : (ts : List Term) (F : Facts) → length (closure ts F) ≡ length ts
+unfolding closure
+length-closure ts F =
+    let l = joinAll (own 0 (length ts)) (F .equal) in
+    length-close (derefs ts) (rounds l) l ∙ (length-joinAll (own 0 (length ts)) (F .equal) ∙ length-own 0 (length ts))
+
 module _ (ts : List Term) (G : Given) (wf : WellFormed ts G) (F : Facts) (ls : Lists F G) where
   -- a property that each step keeps, with what each step keeps anyway
   pub record Kept (Q : List Label → Type 0) (l : List Label) : Type 0 where
@@ -251,6 +272,3 @@ module _ (ts : List Term) (G : Given) (wf : WellFormed ts G) (F : Facts) (ls : L
         derefs-joined = λ i j b e.
             all-joined (placed (closure ts F)) (close-closed (rounds l) l (enough-rounds l) k) (derefs-in ts i) (derefs-in ts j) (record { block = b; position = e });
       }
-
-  pub length-closure : length (closure ts F) ≡ length ts
-  length-closure = closure-keeps Anything anything 0 .long

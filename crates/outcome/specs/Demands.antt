@@ -87,7 +87,7 @@ module _ (ts : List Term) (ps : List Proposition) (qs : List Comparison) (wf : W
     unfolding satisfiable
     labelled t h =
         let l = closure ts (facts ts ps) in
-        let long : t < length l = omega (arith, length-closure ts (listed ts ps) wf (facts ts ps) (lists ts ps)) in
+        let long : t < length l = omega (arith, length-closure ts (facts ts ps)) in
         (rw leaves (rep-at l t long), rw leaves (off-at l t long))
 
     -- demand 2: a term's representative is the lowest-numbered term of its class, and its offset is that from it

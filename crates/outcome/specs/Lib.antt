@@ -1,7 +1,8 @@
--- What a run leaves (Outcome, with Blame and PairBits), paper 01's examples (Examples), and the theorems (Demands, BlameMinimal).
+-- What a run leaves (Outcome, with Blame and PairBits) and how much (Lengths), paper 01's examples (Examples), and the theorems (Demands, BlameMinimal).
 pub mod Blame
 pub mod PairBits
 pub mod Outcome
+pub mod Lengths
 pub mod Examples
 pub mod BlameMinimal
 pub mod Demands

@@ -144,7 +144,7 @@ module _ (T : Tables) (good : Good T) where
     l = closure ts F
 
     long : length l ≡ T .terms
-    long = length-closure ts (listed ts ps) wf F (lists ts ps) ∙ length-terms T
+    long = length-closure ts F ∙ length-terms T
 
     computed : (t : ℕ) → t < T .terms → (P .block t ≡ placed l .block t) × (P .position t ≡ placed l .position t)
     computed t h = canonical-computed ts (listed ts ps) wf F (lists ts ps) (C .no-contradiction) P (C .canonical) t (omega (arith, length-terms T))

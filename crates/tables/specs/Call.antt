@@ -167,7 +167,7 @@ abbrev pub checked : Option Fault → Checked
 checked none = Accepted
 checked (some f) = Checked.Refused (f .refusal) (f .place)
 
-abbrev solvedBy : Verdict → Solved
+abbrev pub solvedBy : Verdict → Solved
 solvedBy Satisfiable = Solved.Satisfiable
 solvedBy Contradiction = Solved.Contradiction
 

@@ -60,7 +60,7 @@ unfoldable pub answerFrames : ℕ → List ℕ → List ℕ
 answerFrames q [] = []
 answerFrames q (a ∷ ans) = answerFrame q a ++ answerFrames (suc q) ans
 
-abbrev middle : Verdict → Outcome → List ℕ
+abbrev pub middle : Verdict → Outcome → List ℕ
 middle Satisfiable o = labelFrames 0 (o .representatives) (o .offsets)
 middle Contradiction o = blameFrames 0 (o .marks)
 

@@ -50,3 +50,28 @@ module _ (old : List ℕ) (at : ℕ) (all : List ℕ) where
   -- what has still to be written fits
   pub remaining-fits : (rest new : List ℕ) (next : ℕ) → at + length all ≤ length old → Remaining old at all rest new next → next + length rest ≤ length new
   remaining-fits rest new next h r = omega (arith, r .place, r .long)
+
+-- three parts that fit as a whole, written one after another
+module _ (old a b c : List ℕ) (fits : length (a ++ (b ++ c)) ≤ length old) where
+  pub first-fits : 0 + length a ≤ length old
+  first-fits = omega (arith, length-append a (b ++ c))
+
+  module _ (middle : List ℕ) (place : ℕ) (first : Appended old 0 a middle place) where
+    pub second-fits : place + length b ≤ length middle
+    second-fits = omega (arith, length-append a (b ++ c), length-append b c, first .place, appended-length old 0 a middle place first)
+
+    module _ (last : List ℕ) (next : ℕ) (second : Appended middle place b last next) where
+      pub third-fits : next + length c ≤ length last
+      third-fits =
+          omega (
+            arith,
+            length-append a (b ++ c),
+            length-append b c,
+            first .place,
+            second .place,
+            appended-length old 0 a middle place first,
+            appended-length middle place b last next second,
+          )
+
+      pub all-written : (new : List ℕ) (end : ℕ) → Appended last next c new end → Appended old 0 (a ++ (b ++ c)) new end
+      all-written new end third = appended-both old 0 a middle place (b ++ c) new end first (appended-both middle place b last next c new end second third)

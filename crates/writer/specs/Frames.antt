@@ -9,16 +9,10 @@ use lib.IntN.{ℤ, pos}
 use native.Mathlib.Numerals.{add-one}
 use lib.ListN.{length, take, drop, getD, length-append, length-drop, drop-of-length-le}
 use lib.Seq.{drop-cons, getD-take, length-take-le}
+use Rattle.types.specs.declared.Verdict.{Verdict}
 use Rattle.text.specs.Lines.{lf, digitOf, hexOf, bytes}
-use Rattle.text.specs.Output.{lineOf, labelFrame, labelFrames, blameFrame, blameIf, blameFrames, answerFrame, answerFrames}
-
-pub length-hex : (bs : List ℕ) → length (hexOf bs) ≡ 2 * length bs
-unfolding hexOf
-length-hex [] = refl
-length-hex (b ∷ bs) = omega (arith, length-hex bs)
-
-pub length-line : (bs : List ℕ) → length (lineOf bs) ≡ 2 * length bs + 1
-length-line bs = omega (arith, length-append (hexOf bs) (lf ∷ []), length-hex bs)
+use Rattle.text.specs.OutputSize.{length-line}
+use Rattle.text.specs.Output.{lineOf, verdictFrame, labelFrame, labelFrames, blameFrame, blameIf, blameFrames, answerFrame, answerFrames}
 
 -- the line of a frame's bytes from number k on, with byte k's digits taken off
 pub line-next : (bs : List ℕ) (k : ℕ)
@@ -81,3 +75,7 @@ byte-shift (suc k) =
 
 pub blame-unmarked : (p m : ℕ) → m ≡ 0 → blameIf p m ≡ []
 blame-unmarked p m e = rw e
+
+-- the frames of a set: its verdict, what the verdict asks for, and the answers
+abbrev pub setFrames : Verdict → List ℕ → List ℕ → List ℕ
+setFrames v middle answers = verdictFrame v ++ (middle ++ answerFrames 0 answers)

@@ -8,6 +8,7 @@ ghost use lib.ListN.{length, take};
 ghost use Rattle.types.specs.declared.Verdict.the-variants.{Satisfiable, Contradiction};
 ghost use Rattle.text.specs.Lines.{digitOf, unsigned};
 ghost use Rattle.text.specs.Output.{lineOf, verdictFrame, labelFrame, labelFrames, blameIf, blameFrames, answerFrame, answerFrames, refusalFrame};
+ghost use Rattle.writer.specs.Frames.{setFrames};
 ghost use Rattle.writer.specs.Appended.{Appended};
 
 // The digit of a value below 16.
@@ -53,7 +54,7 @@ fn put_line(out: &mut [u8], at: usize, frame: &[u8]) -> usize
     next + 1
 }
 
-pub fn put_satisfiable(out: &mut [u8], at: usize) -> usize
+fn put_satisfiable(out: &mut [u8], at: usize) -> usize
     requires { ⌜ at + length (verdictFrame Satisfiable) ≤ length (now out) ⌝ }
     ensures { λ r. ⌜ Appended (now (out .entry)) at (verdictFrame Satisfiable) (now (out .exit)) r ⌝ }
 {
@@ -61,7 +62,7 @@ pub fn put_satisfiable(out: &mut [u8], at: usize) -> usize
     put_line(out, at, &frame)
 }
 
-pub fn put_contradiction(out: &mut [u8], at: usize) -> usize
+fn put_contradiction(out: &mut [u8], at: usize) -> usize
     requires { ⌜ at + length (verdictFrame Contradiction) ≤ length (now out) ⌝ }
     ensures { λ r. ⌜ Appended (now (out .entry)) at (verdictFrame Contradiction) (now (out .exit)) r ⌝ }
 {
@@ -96,7 +97,7 @@ fn put_label(out: &mut [u8], at: usize, term: usize, representative: u32, offset
 }
 
 // The representatives and offsets of n terms.
-pub fn put_labels(
+fn put_labels(
     out: &mut [u8],
     at: usize,
     n: usize,
@@ -128,7 +129,7 @@ fn put_blamed(out: &mut [u8], at: usize, proposition: usize, mark: u8) -> usize
 }
 
 // Those of m propositions that are marked.
-pub fn put_blame(out: &mut [u8], at: usize, m: usize, marks: &[u8]) -> usize
+fn put_blame(out: &mut [u8], at: usize, m: usize, marks: &[u8]) -> usize
     requires { ⌜ m ≤ length (now marks) ⌝ }
     requires { ⌜ at + length (blameFrames 0 (take m (now marks))) ≤ length (now out) ⌝ }
     ensures { λ r. ⌜ Appended (now (out .entry)) at (blameFrames 0 (take m (now (marks .entry)))) (now (out .exit)) r ⌝ }
@@ -151,7 +152,7 @@ fn put_answer(out: &mut [u8], at: usize, question: usize, answer: u8) -> usize
 }
 
 // The answers to q questions.
-pub fn put_answers(out: &mut [u8], at: usize, q: usize, answers: &[u8]) -> usize
+fn put_answers(out: &mut [u8], at: usize, q: usize, answers: &[u8]) -> usize
     requires { ⌜ q ≤ length (now answers) ⌝ }
     requires { ⌜ at + length (answerFrames 0 (take q (now answers))) ≤ length (now out) ⌝ }
     ensures { λ r. ⌜ Appended (now (out .entry)) at (answerFrames 0 (take q (now (answers .entry)))) (now (out .exit)) r ⌝ }
@@ -171,4 +172,39 @@ pub fn put_refusal(out: &mut [u8], at: usize, refusal: Refusal, place: usize) ->
     let p = place as u64;
     let frame = [0xA4, refusal_number(refusal), byte_of(p, 1), byte_of(p, 0)];
     put_line(out, at, &frame)
+}
+
+// The frames of a satisfiable set: its verdict, n terms and q questions.
+pub fn put_satisfiable_set(
+    out: &mut [u8],
+    n: usize,
+    representatives: &[u32],
+    offsets: &[i64],
+    q: usize,
+    answers: &[u8],
+) -> usize
+    requires { ⌜ (n ≤ length (now representatives)) × ((n ≤ length (now offsets)) × (q ≤ length (now answers))) ⌝ }
+    requires { ⌜ length (setFrames Satisfiable (labelFrames 0 (take n (now representatives)) (take n (now offsets))) (take q (now answers))) ≤ length (now out) ⌝ }
+    ensures { λ r. ⌜ Appended (now (out .entry)) 0 (setFrames Satisfiable (labelFrames 0 (take n (now (representatives .entry))) (take n (now (offsets .entry)))) (take q (now (answers .entry)))) (now (out .exit)) r ⌝ }
+{
+    let labels = put_satisfiable(out, 0);
+    let questions = put_labels(out, labels, n, representatives, offsets);
+    put_answers(out, questions, q, answers)
+}
+
+// The frames of a contradictory set: its verdict, those of m propositions that are marked, and q questions.
+pub fn put_contradictory_set(
+    out: &mut [u8],
+    m: usize,
+    marks: &[u8],
+    q: usize,
+    answers: &[u8],
+) -> usize
+    requires { ⌜ (m ≤ length (now marks)) × (q ≤ length (now answers)) ⌝ }
+    requires { ⌜ length (setFrames Contradiction (blameFrames 0 (take m (now marks))) (take q (now answers))) ≤ length (now out) ⌝ }
+    ensures { λ r. ⌜ Appended (now (out .entry)) 0 (setFrames Contradiction (blameFrames 0 (take m (now (marks .entry)))) (take q (now (answers .entry)))) (now (out .exit)) r ⌝ }
+{
+    let blame = put_contradiction(out, 0);
+    let questions = put_blame(out, blame, m, marks);
+    put_answers(out, questions, q, answers)
 }

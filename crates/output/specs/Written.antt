@@ -1,0 +1,52 @@
+-- What `write_output` leaves.
+use Prim.Native.Nat.{ℕ, _+_, _<_, _≤_}
+use mathlib.Core.Path.{_≡_, refl, _∙_, ap}
+use mathlib.Core.List.{List, []}
+use native.Mathlib.Omega.{arith}
+use borrow.Author.Tests.{le-leb, lt-leb}
+use lib.Dec.{leb}
+use lib.ListN.{length, take}
+use lib.Seq.{sets-eq}
+use Rattle.lists.specs.Search.{choose}
+use Rattle.tables.specs.Limits.{most}
+use Rattle.outcome.specs.PairBits.{pairBytes}
+use Rattle.tables.specs.Call.{Room, overwrite}
+use Rattle.text.specs.Reading.{reading}
+use Rattle.text.specs.Output.{judged, readingFrames, output}
+use Rattle.text.specs.OutputSize.{largestOutput, output-size}
+use Rattle.writer.specs.Appended.{Appended}
+
+-- lent memory for the most terms, propositions and questions
+abbrev pub fullRoom : Room
+fullRoom = record { representatives = most; offsets = most; marks = most; pairs = pairBytes most; answers = most }
+
+-- what is written to a buffer of so many bytes: the output, if there is room for the largest, else nothing
+unfoldable pub written : List ℕ → ℕ → List ℕ
+written text room = choose (leb largestOutput room) (output text) []
+
+-- the answer n and the buffer afterwards
+abbrev pub WrittenAs : List ℕ → List ℕ → ℕ → List ℕ → Type 0
+WrittenAs text old n new = (n ≡ length (written text (length old))) × (new ≡ overwrite (written text (length old)) old)
+
+appended-overwrite : (old bytes new : List ℕ) (n : ℕ) → Appended old 0 bytes new n → length bytes ≤ length old → (n ≡ length bytes) × (new ≡ overwrite bytes old)
+appended-overwrite old bytes new n a h =
+    let z : 0 + length bytes ≡ length bytes = omega arith in
+    (a .place ∙ z, a .cells ∙ rw z at (sets-eq bytes old 0 (omega arith)))
+
+module _ (text old : List ℕ) where
+  pub written-short : length old < largestOutput → WrittenAs text old 0 old
+  unfolding written
+  written-short h = rw (lt-leb largestOutput (length old) h) (refl, refl)
+
+  written-output : largestOutput ≤ length old → written text (length old) ≡ output text
+  unfolding written
+  written-output h = rw (le-leb largestOutput (length old) h)
+
+  output-is : output text ≡ readingFrames (reading (take judged text))
+  unfolding output
+  output-is = refl
+
+  pub written-all : largestOutput ≤ length old → (part : List ℕ) → part ≡ take judged text → (n : ℕ) (new : List ℕ) → Appended old 0 (readingFrames (reading part)) new n → WrittenAs text old n new
+  written-all h part e n new a =
+      rw (written-output h)
+      (appended-overwrite old (output text) new n (rw (output-is, ← e) a) (omega (arith, output-size text)))
