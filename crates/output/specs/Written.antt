@@ -1,9 +1,10 @@
 -- What `write_output` leaves.
 use Prim.Native.Nat.{ℕ, _+_, _<_, _≤_}
 use mathlib.Core.Path.{_≡_, refl, _∙_, ap}
+use mathlib.Core.Bool.{Bool, true, false}
 use mathlib.Core.List.{List, []}
 use native.Mathlib.Omega.{arith}
-use borrow.Author.Tests.{le-leb, lt-leb}
+use borrow.Author.Tests.{leb-true, le-leb, lt-leb}
 use lib.Dec.{leb}
 use lib.ListN.{length, take}
 use lib.Seq.{sets-eq}
@@ -50,3 +51,12 @@ module _ (text old : List ℕ) where
   written-all h part e n new a =
       rw (written-output h)
       (appended-overwrite old (output text) new n (rw (output-is, ← e) a) (omega (arith, output-size text)))
+
+-- never more than there is room for
+pub written-within : (text : List ℕ) (room : ℕ) → length (written text room) ≤ room
+unfolding written
+written-within text room = go (leb largestOutput room) refl
+  where
+    go : (b : Bool) → leb largestOutput room ≡ b → length (choose b (output text) []) ≤ room
+    go true e = omega (arith, leb-true largestOutput room e, output-size text)
+    go false e = omega arith

@@ -1,0 +1,2 @@
+-- How many bytes came from standard input.
+pub mod Input
