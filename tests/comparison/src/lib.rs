@@ -1,4 +1,5 @@
-//! The proved solver through its static library, and the sets on which it is compared with the second solver.
+//! The proved functions through their static library, and the sets and texts on which they are compared with the second solver.
 
 pub mod proved;
 pub mod sets;
+pub mod texts;

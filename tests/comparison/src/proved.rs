@@ -1,4 +1,4 @@
-//! The exported function of the static library, as `include/bucketmonk.h` declares it.
+//! The exported functions of the static library, as `include/bucketmonk.h` declares them.
 
 use second_solver::tables::{Input, Lent, Outcome};
 
@@ -38,6 +38,8 @@ extern "C" {
         answers: *mut u8,
         answers_length: usize,
     ) -> usize;
+
+    fn bucketmonk_output(text: *const u8, text_length: usize, out: *mut u8, out_length: usize) -> usize;
 }
 
 /// Solves the set with the proved solver.
@@ -85,4 +87,14 @@ pub fn solve(input: &Input, lent: &mut Lent) -> Outcome {
         1 => Outcome::Contradiction,
         _ => Outcome::Refused { number: (code >> 16) as u8, place: (code & 0xFFFF) as u16 },
     }
+}
+
+/// Most bytes that the program writes: A000, 512 frames A1 and 512 frames A3.
+pub const LARGEST_OUTPUT: usize = 5 + 512 * 27 + 512 * 9;
+
+/// Writes to `out` what the proved program writes for a text. Returns how many bytes; 0 where `out` has no room for the largest
+/// output.
+pub fn output(text: &[u8], out: &mut [u8]) -> usize {
+    // SAFETY: each pointer comes with the length of its slice, and `out` is exclusive.
+    unsafe { bucketmonk_output(text.as_ptr(), text.len(), out.as_mut_ptr(), out.len()) }
 }
