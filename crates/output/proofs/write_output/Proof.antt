@@ -12,7 +12,7 @@ use Rattle.output.proofs.answer_text.Reads as answer-text-reads
 
 -- src/lib.rt:143:9
 returns : tie.Need-returns
-returns c = written-short _ _ (c .if1 .taken)
+returns c = written-short _ _ (omega (arith, c .if1 .taken))
 
 -- src/lib.rt:146:9
 answer-text-requires : tie.Need-answer-text-requires

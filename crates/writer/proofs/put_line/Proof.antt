@@ -81,7 +81,7 @@ add-result c = omega (arith, remaining-fits _ _ _ _ _ _ (c .before .before .befo
 
 -- src/lib.rt:41:1
 same-length : tie.Need-same-length Inv-loop μ-loop
-same-length c = length-set (c .before .loop .out) (c .before .loop .next) 10 ∙ c .before .loop .inv .1 .long
+same-length c = length-set (c .before .loop .out) (c .before .loop .next) _ ∙ c .before .loop .inv .1 .long
 
 -- src/lib.rt:41:1
 returns : tie.Need-returns Inv-loop μ-loop
