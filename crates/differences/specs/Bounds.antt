@@ -1,6 +1,7 @@
 -- Bounds on offsets, so that their sums fit 64 bits.
 use Prim.Native.Nat.{ℕ, _+_, _^_, _<_, _≤_}
 use native.Mathlib.Omega.{arith}
+use lib.Dec.{lit<}
 use lib.IntN.{ℤ, pos, negsuc, negℤ, _+ℤ_, _-ℤ_}
 use lib.Signed.{mag}
 use mir.Syntax.{w32, w64}
@@ -59,3 +60,13 @@ below-mag B (negsuc n) h = record { above = omega arith; below = omega arith }
 
 pub fits-within : {z : ℤ} → SFits w32 z → Within (2 ^ 31) z
 fits-within {z} s = below-mag (2 ^ 31) z (s .sfits)
+
+-- sums, differences and negations of numbers in reach fit 64 bits
+pub sum-fits : (a b : ℤ) → Within reach a → Within reach b → SFits w64 (a +ℤ b)
+sum-fits a b v w = within-fits (reach + reach) (within-sum v w) (lit< tt)
+
+pub difference-fits : (a b : ℤ) → Within reach a → Within reach b → SFits w64 (a -ℤ b)
+difference-fits a b v w = within-fits (reach + reach) (within-difference v w) (lit< tt)
+
+pub negated-fits : (a : ℤ) → Within reach a → SFits w64 (negℤ a)
+negated-fits a w = within-fits reach (within-negated w) (lit< tt)

@@ -35,7 +35,7 @@ pub fn offset_at(column: &[i32], k: usize) -> i64
     requires { ⌜ k < length (now column) ⌝ }
     ensures { λ r. ⌜ (r ≡ getD (now (column .entry)) k (pos 0)) × Within (2 ^ 31) r ⌝ }
 {
-    crate::signed::widened(column[k])
+    offsets::widened(column[k])
 }
 
 // The offset of a term from its representative.

@@ -5,7 +5,7 @@ use crate::columns::DEREFERENCE;
 use crate::columns::is_kind;
 use crate::columns::offset_at;
 use crate::columns::term_at;
-use crate::signed::same;
+use offsets::is_same;
 use types::TermNumber;
 ghost use mathlib.Core.Path.{_≡_};
 ghost use Prim.Native.Nat.{_<_};
@@ -27,7 +27,7 @@ fn invert_of(n: usize, x: TermNumber, kinds: &[u8], numbers: &[u32], zs: &[i32],
         if !is_kind(kinds, y, DEREFERENCE) {
             continue;
         }
-        if !same(z, offset_at(zs, y)) {
+        if !is_same(z, offset_at(zs, y)) {
             continue;
         }
         if !test_pair(n, x, TermNumber(y), pairs) {

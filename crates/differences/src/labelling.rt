@@ -3,9 +3,9 @@ use crate::bits::test_pair;
 use crate::columns::offset_at;
 use crate::columns::position;
 use crate::columns::term_at;
-use crate::signed::difference;
-use crate::signed::same;
-use crate::signed::sum;
+use offsets::difference;
+use offsets::is_same;
+use offsets::sum;
 use types::PropositionNumber;
 use types::TermNumber;
 ghost use mathlib.Core.Path.{_≡_};
@@ -40,7 +40,7 @@ fn at_offset(t1: TermNumber, z: i64, t2: TermNumber, offs: &[i64]) -> bool
     let a = position(offs, t1);
     let b = position(offs, t2);
     let c = sum(z, b);
-    same(a, c)
+    is_same(a, c)
 }
 
 // Whether t1 equals z + t2.
@@ -133,5 +133,5 @@ pub fn moved_to(
     let b = distance(t2, right, offs);
     let c = offset_at(zs, k.0);
     let d = moved_offset(c, a, b);
-    same(z, d)
+    is_same(z, d)
 }

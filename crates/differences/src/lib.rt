@@ -6,7 +6,6 @@ mod columns;
 mod inverse;
 mod labelling;
 mod questions;
-mod signed;
 
 ghost use mathlib.Core.Path.{_≡_};
 ghost use mathlib.Core.List.{_++_};

@@ -8,9 +8,9 @@ use crate::columns::term_at;
 use crate::labelling::classes_differ;
 use crate::labelling::equal_at;
 use crate::labelling::moved_to;
-use crate::signed::difference;
-use crate::signed::negated;
-use crate::signed::same;
+use offsets::difference;
+use offsets::is_same;
+use offsets::negated;
 use types::Answer;
 use types::PropositionNumber;
 use types::QuestionNumber;
@@ -130,7 +130,7 @@ fn offsets_apart(x: TermNumber, z: i64, y: TermNumber, zs: &[i32]) -> bool
     let a = offset_at(zs, y.0);
     let b = offset_at(zs, x.0);
     let c = difference(a, b);
-    same(z, c)
+    is_same(z, c)
 }
 
 // Whether dereference x and some dereference of the right term, z apart, differ by the pair table.

@@ -48,8 +48,8 @@ loop-again c = marking-skip (c .before .before .loop-test .taken) (c .before .be
 offset-at-requires-2 : tie.Need-offset-at-requires-2 Inv-loop μ-loop
 offset-at-requires-2 c κs = omega arith
 
-same-requires : tie.Need-same-requires Inv-loop μ-loop
-same-requires c κs = omega arith
+is-same-requires : tie.Need-is-same-requires Inv-loop μ-loop
+is-same-requires c κs = omega arith
 
 add-y-2 : tie.Need-add-y-2 Inv-loop μ-loop
 add-y-2 c = omega arith
@@ -58,11 +58,11 @@ loop-less-2 : tie.Need-loop-less-2 Inv-loop μ-loop
 loop-less-2 c = omega arith
 
 -- whether the two offsets are the same
-judged : (c : tie.After-same Inv-loop μ-loop) → let s = c .before .before .before .before .before .before .before .before .before .before .before in c .same .result ≡ eqℤ (getD (now (s .args .zs)) (s .args .x .0) (pos 0)) (getD (now (s .args .zs)) (c .before .before .before .before .before .loop .y) (pos 0))
+judged : (c : tie.After-is-same Inv-loop μ-loop) → let s = c .before .before .before .before .before .before .before .before .before .before .before in c .is-same .result ≡ eqℤ (getD (now (s .args .zs)) (s .args .x .0) (pos 0)) (getD (now (s .args .zs)) (c .before .before .before .before .before .loop .y) (pos 0))
 judged c =
     let e1 = toZ-ofZ w64 (c .before .before .before .before .before .before .before .offset-at .result) (sfits-of (c .before .before .before .before .before .before .before .offset-at .ok)) ∙ c .before .before .before .before .before .before .before .offset-at .ensures .0 in
     let e2 = toZ-ofZ w64 (c .before .offset-at2 .result) (sfits-of (c .before .offset-at2 .ok)) ∙ c .before .offset-at2 .ensures .0 in
-    rw (e1, e2) at (c .same .ensures)
+    rw (e1, e2) at (c .is-same .ensures)
 
 loop-again-2 : tie.Need-loop-again-2 Inv-loop μ-loop
 loop-again-2 c = marking-skip (c .before .before .before .before .before .loop-test .taken) (c .before .before .before .before .before .before .loop .inv)
@@ -139,7 +139,7 @@ invert-of-spec =
     loop-less
     loop-again
     offset-at-requires-2
-    same-requires
+    is-same-requires
     add-y-2
     loop-less-2
     loop-again-2

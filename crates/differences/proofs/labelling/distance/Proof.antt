@@ -5,7 +5,7 @@ use mir.Syntax.{w64}
 use mir.ValLaws.{toZ-ofZ}
 use borrow.Author.Needs.{sfits-of}
 use borrow.Author.Needs.{needs}
-use Rattle.differences.specs.Bounds.{reach, within-more}
+use Rattle.differences.specs.Bounds.{reach, within-more, difference-fits}
 use Rattle.differences.proofs.labelling.distance.Statement.{statement}
 use Rattle.differences.proofs.labelling.distance.Tie as tie
 
@@ -19,7 +19,7 @@ difference-requires : tie.Need-difference-requires
 difference-requires c κs = let s = c .before .before in
     let e1 = toZ-ofZ w64 (c .before .position .result) (sfits-of (c .before .position .ok)) ∙ c .before .position .ensures in
     let e2 = toZ-ofZ w64 (c .position2 .result) (sfits-of (c .position2 .ok)) ∙ c .position2 .ensures in
-    (rw e1 (within-more reach (s .pre .0 .within) (lit≤ tt)), rw e2 (within-more reach (s .pre .1 .within) (lit≤ tt)))
+    rw (e1, e2) (difference-fits _ _ (within-more reach (s .pre .0 .within) (lit≤ tt)) (within-more reach (s .pre .1 .within) (lit≤ tt)))
 
 returns : tie.Need-returns
 returns c = let s = c .before .before .before in

@@ -1,20 +1,21 @@
 -- `differences::labelling::moved_offset` meets its contract.
 use mathlib.Core.Path.{_∙_}
+use lib.IntN.{_+ℤ_}
 use lib.Dec.{lit≤}
 use mir.Syntax.{w64}
 use mir.ValLaws.{toZ-ofZ}
 use borrow.Author.Needs.{sfits-of}
-use Rattle.differences.specs.Bounds.{reach, within-more, within-sum}
+use Rattle.differences.specs.Bounds.{reach, within-more, within-sum, sum-fits, difference-fits}
 use Rattle.differences.proofs.labelling.moved_offset.Statement.{statement}
 use Rattle.differences.proofs.labelling.moved_offset.Tie as tie
 
 sum-requires : tie.Need-sum-requires
-sum-requires c κs = (rw (toZ-ofZ w64 (c .args .z) (c .fits .z)) (within-more reach (c .pre .0) (lit≤ tt)), rw (toZ-ofZ w64 (c .args .a) (c .fits .a)) (within-more reach (c .pre .1 .0) (lit≤ tt)))
+sum-requires c κs = rw (toZ-ofZ w64 (c .args .z) (c .fits .z), toZ-ofZ w64 (c .args .a) (c .fits .a)) (sum-fits (c .args .z) (c .args .a) (within-more reach (c .pre .0) (lit≤ tt)) (within-more reach (c .pre .1 .0) (lit≤ tt)))
 
 difference-requires : tie.Need-difference-requires
 difference-requires c κs = let s = c .before in
     let e = toZ-ofZ w64 (c .sum .result) (sfits-of (c .sum .ok)) ∙ (rw (toZ-ofZ w64 (s .args .z) (s .fits .z), toZ-ofZ w64 (s .args .a) (s .fits .a)) at (c .sum .ensures)) in
-    (rw e (within-more reach (within-sum (s .pre .0) (s .pre .1 .0)) (lit≤ tt)), rw (toZ-ofZ w64 (s .args .b) (s .fits .b)) (within-more reach (s .pre .1 .1) (lit≤ tt)))
+    rw (e, toZ-ofZ w64 (s .args .b) (s .fits .b)) (difference-fits (s .args .z +ℤ s .args .a) (s .args .b) (within-more reach (within-sum (s .pre .0) (s .pre .1 .0)) (lit≤ tt)) (within-more reach (s .pre .1 .1) (lit≤ tt)))
 
 returns : tie.Need-returns
 returns c = let s = c .before .before in

@@ -78,8 +78,8 @@ moved-offset-requires c κs = let s = c .before .before .before .before .before 
   ),
 )
 
-same-requires : tie.Need-same-requires
-same-requires c κs = search needs
+is-same-requires : tie.Need-is-same-requires
+is-same-requires c κs = search needs
 
 returns-3 : tie.Need-returns-3
 unfolding movedTo classesOf
@@ -87,7 +87,7 @@ returns-3 c =
     let s = c .before .before .before .before .before .before .before .before .before .before .before .before .before .before in
     let z = toZ-ofZ w64 (c .before .before .offset-at .result) (sfits-of (c .before .before .offset-at .ok)) ∙ c .before .before .offset-at .ensures .0 in
     let to = toZ-ofZ w64 (c .before .moved-offset .result) (sfits-of (c .before .moved-offset .ok)) ∙ (rw (z, left-distance (c .before .before .before .before), right-distance (c .before .before .before)) at (c .before .moved-offset .ensures)) in
-    rw (left-same (c .before .before .before .before .before .before .before), right-same (c .before .before .before .before .before), c .same .ensures, to, toZ-ofZ w64 (s .args .z) (s .fits .z))
+    rw (left-same (c .before .before .before .before .before .before .before), right-same (c .before .before .before .before .before), c .is-same .ensures, to, toZ-ofZ w64 (s .args .z) (s .fits .z))
 
 pub moved-to-spec : {M : Type 1} → statement M
 moved-to-spec =
@@ -103,5 +103,5 @@ moved-to-spec =
     distance-requires-2
     offset-at-requires
     moved-offset-requires
-    same-requires
+    is-same-requires
     returns-3)

@@ -16,7 +16,7 @@ use borrow.Author.Tests.{eqb-true, eqb-false, not-true, not-false}
 use Rattle.labels.specs.View.{view}
 use Rattle.closure.specs.Differences.{movedTo, or-first, or-second, or-cases}
 use Rattle.tables.specs.Records.{disequalityKind}
-use Rattle.differences.specs.Bounds.{reach, within-more, within-negated}
+use Rattle.differences.specs.Bounds.{reach, within-more, within-negated, negated-fits}
 use Rattle.differences.specs.Marks.{false-true}
 use Rattle.differences.specs.Base.{sides}
 use Rattle.differences.specs.Answers.{found, missing, Shows}
@@ -31,7 +31,7 @@ abbrev μ-loop : tie.MeasureT-loop
 
 negated-requires : tie.Need-negated-requires Inv-loop μ-loop
 negated-requires c κs = let s = c .before .before .before .before in
-    rw (toZ-ofZ w64 (s .args .z) (s .fits .z)) (within-more reach (s .pre .1 .near) (lit≤ tt))
+    rw (toZ-ofZ w64 (s .args .z) (s .fits .z)) (negated-fits (s .args .z) (within-more reach (s .pre .1 .near) (lit≤ tt)))
 
 loop-holds : tie.Need-loop-holds Inv-loop μ-loop
 loop-holds c = λ j h. absurd (omega arith)
