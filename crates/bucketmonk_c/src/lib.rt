@@ -1,14 +1,19 @@
-// The solver for programs in C. The header is include/bucketmonk.h.
+// The solver and the reader for programs in C. The header is include/bucketmonk.h.
+use reader::ReadResult;
+use reader::read;
 use solver::solve;
+use solver::verdict;
 use types::Refusal;
 use types::Solved;
 ghost use Prim.Native.Nat.{_≤_};
 ghost use mathlib.Core.Path.{_≡_};
 ghost use Rattle.types.specs.Numbers.{refusalNumber};
-ghost use Rattle.tables.specs.Call.{room, refusal, returned, left};
+ghost use Rattle.tables.specs.Call.{room, refusal, returned, left, setOf};
 ghost use Rattle.checks.specs.Limits.{tablesOf};
 ghost use Rattle.solver.specs.Answered.{memoryOf};
-ghost use Rattle.bucketmonk_c.specs.Numbers.{solvedNumber};
+ghost use Rattle.solver.specs.Verdict.{verdictOf};
+ghost use Rattle.reader.specs.Columns.{columns};
+ghost use Rattle.bucketmonk_c.specs.Numbers.{solvedNumber, readNumber, ReadAsNumber};
 
 // The number of a refusal.
 fn refusal_number(r: Refusal) -> usize
@@ -84,4 +89,92 @@ pub extern "C" fn bucketmonk_solve(
         pairs,
         answers,
     ))
+}
+
+// `verdict`, with the number of what it returns.
+#[no_mangle]
+pub extern "C" fn bucketmonk_verdict(
+    n: usize,
+    kinds: &[u8],
+    numbers: &[u32],
+    zs: &[i32],
+    m: usize,
+    pkinds: &[u8],
+    lefts: &[u32],
+    pzs: &[i32],
+    rights: &[u32],
+) -> usize
+    ensures { λ r. ⌜ r ≡ solvedNumber (verdictOf (setOf n (now (kinds .entry)) (now (numbers .entry)) (now (zs .entry)) m (now (pkinds .entry)) (now (lefts .entry)) (now (pzs .entry)) (now (rights .entry)))) ⌝ }
+{
+    let found = verdict(n, kinds, numbers, zs, m, pkinds, lefts, pzs, rights);
+    solved_number(found)
+}
+
+// The number of what `read` returns.
+fn read_number(r: ReadResult) -> usize
+    ensures { λ k. ⌜ k ≡ readNumber r ⌝ }
+{
+    match r {
+        ReadResult::Accepted {
+            terms,
+            propositions,
+            questions,
+        } => 4294967296 * (terms % 65536) + 65536 * (propositions % 65536) + questions % 65536,
+        ReadResult::Refused { refusal, frame } => {
+            281474976710656 * refusal_number(refusal) + frame % 281474976710656
+        }
+    }
+}
+
+// `read`, with the number of what it returns.
+#[no_mangle]
+pub extern "C" fn bucketmonk_read(
+    text: &[u8],
+    term_kinds: &mut [u8],
+    term_numbers: &mut [u32],
+    term_offsets: &mut [i32],
+    proposition_kinds: &mut [u8],
+    proposition_lefts: &mut [u32],
+    proposition_offsets: &mut [i32],
+    proposition_rights: &mut [u32],
+    question_lefts: &mut [u32],
+    question_offsets: &mut [i32],
+    question_rights: &mut [u32],
+) -> usize
+    ensures { λ r. ⌜ ReadAsNumber (now (text .entry)) (columns
+        (now («term_kinds» .entry))
+        (now («term_numbers» .entry))
+        (now («term_offsets» .entry))
+        (now («proposition_kinds» .entry))
+        (now («proposition_lefts» .entry))
+        (now («proposition_offsets» .entry))
+        (now («proposition_rights» .entry))
+        (now («question_lefts» .entry))
+        (now («question_offsets» .entry))
+        (now («question_rights» .entry))) r (columns
+        (now («term_kinds» .exit))
+        (now («term_numbers» .exit))
+        (now («term_offsets» .exit))
+        (now («proposition_kinds» .exit))
+        (now («proposition_lefts» .exit))
+        (now («proposition_offsets» .exit))
+        (now («proposition_rights» .exit))
+        (now («question_lefts» .exit))
+        (now («question_offsets» .exit))
+        (now («question_rights» .exit))) ⌝ }
+{
+    let found = read(
+        text,
+        term_kinds,
+        term_numbers,
+        term_offsets,
+        proposition_kinds,
+        proposition_lefts,
+        proposition_offsets,
+        proposition_rights,
+        question_lefts,
+        question_offsets,
+        question_rights,
+    );
+    read_number(found)
 }

@@ -1,5 +1,5 @@
--- Demands 2 and 3 of what `solve` returns and leaves. Each theorem is about an accepted call that is answered as promised: the
--- result r, and the lent memory N afterwards.
+-- Demands 2 and 3 of what `solve` returns and leaves, and of what `verdict` returns. Each theorem is about an accepted call that is
+-- answered as promised: the result r, and the lent memory N afterwards.
 use Prim.Native.Nat.{ℕ, _+_, _*_, _/_, _%_, _<_, _≤_}
 use mathlib.Core.Path.{_≡_, refl, sym, _∙_, ap}
 use mathlib.Core.Logic.{_↔_}
@@ -24,10 +24,11 @@ use Rattle.closure.specs.Verdict.{contradictory}
 use Rattle.outcome.specs.PairBits.{bitOf, pairBits, pairBytes}
 use Rattle.outcome.specs.Outcome.{Outcome, outcome, satisfiable, contradiction}
 use Rattle.outcome.specs.Demands as outcomes
-use Rattle.tables.specs.Call.{Tables, Memory, room, refusal, termsOf, propositionsOf, questionsOf, written, run, overwrite}
+use Rattle.tables.specs.Call.{Tables, Memory, room, refusal, termsOf, propositionsOf, questionsOf, written, run, returned, overwrite}
 use Rattle.tables.specs.Accepted.{passed, length-terms, accepted-well-formed, accepted-questions}
 use Rattle.solver.specs.Results.{solvedAs}
 use Rattle.solver.specs.Answered.{Answered, verdict-returned}
+use Rattle.solver.specs.Verdict.{roomFor, verdictOf}
 
 -- the lengths of what a run leaves
 answers-long : (ts : List Term) (ps : List Proposition) (qs : List Comparison) → length (outcome ts ps qs .answers) ≡ length qs
@@ -54,6 +55,22 @@ written-bit : (new old : List ℕ) (i : ℕ) → i / 8 < length new → bitOf (o
 unfolding bitOf
 written-bit new old i h = rw (written-cell new old (i / 8) h)
 
+-- what an accepted call returns
+module _ (T : Tables) (r : Solved) (is : r ≡ returned none T) where
+  abbrev decided : Verdict
+  decided = outcome (termsOf T) (propositionsOf T) (questionsOf T) .verdict
+
+  accepted-returns : (v : Verdict) → decided ≡ v → r ≡ solvedAs v
+  unfolding run
+  accepted-returns v e = is ∙ sym (verdict-returned T v e)
+
+  contradiction-returned : r ≡ Solved.Contradiction ↔ (decided ≡ Verdict.Contradiction)
+  contradiction-returned = (λ e. go decided refl e, λ e. accepted-returns Verdict.Contradiction e)
+    where
+      go : (v : Verdict) → decided ≡ v → r ≡ Solved.Contradiction → v ≡ Verdict.Contradiction
+      go Verdict.Contradiction v e = refl
+      go Verdict.Satisfiable v e = let s = accepted-returns Verdict.Satisfiable v in let z : _≡_ {A = ℕ} 0 1 = cc in absurd (omega arith)
+
 module _ (T : Tables) (M N : Memory) (r : Solved) (A : Answered T M N r) (accepted : refusal T (room M) ≡ none) where
   abbrev ts : List Term
   ts = termsOf T
@@ -75,14 +92,10 @@ module _ (T : Tables) (M N : Memory) (r : Solved) (A : Answered T M N r) (accept
   run-is = refl
 
   returned-at : (v : Verdict) → O .verdict ≡ v → r ≡ solvedAs v
-  returned-at v e = (rw accepted at (A .returns)) ∙ sym (verdict-returned T v (ap (λ (o : Outcome). o .verdict) run-is ∙ e))
+  returned-at = accepted-returns T r (rw accepted at (A .returns))
 
   contradiction-iff : r ≡ Solved.Contradiction ↔ (O .verdict ≡ Verdict.Contradiction)
-  contradiction-iff = (λ e. go (O .verdict) refl e, λ e. returned-at Verdict.Contradiction e)
-    where
-      go : (v : Verdict) → O .verdict ≡ v → r ≡ Solved.Contradiction → v ≡ Verdict.Contradiction
-      go Verdict.Contradiction v e = refl
-      go Verdict.Satisfiable v e = let s = returned-at Verdict.Satisfiable v in let z : _≡_ {A = ℕ} 0 1 = cc in absurd (omega arith)
+  contradiction-iff = contradiction-returned T r (rw accepted at (A .returns))
 
   satisfiable-verdict : r ≡ Solved.Satisfiable → O .verdict ≡ Verdict.Satisfiable
   satisfiable-verdict e = go (O .verdict) refl
@@ -159,3 +172,21 @@ module _ (T : Tables) (M N : Memory) (r : Solved) (A : Answered T M N r) (accept
       -- demand 3: a pair whose bit is 1 differs in every assignment
       pub pair-assignments : bit ≡ 1 → (P : Placement) → Assignment ts (listed ts ps) P → Differs P i (pos 0) j
       pair-assignments e = outcomes.pair-assignments ts ps qs wf (satisfiable-verdict sat) i j hi hj (sym bit-is ∙ e)
+
+-- demands 2 and 3 of what `verdict` returns, for accepted tables
+module _ (T : Tables) (r : Solved) (is : r ≡ verdictOf T) (accepted : refusal T (roomFor T) ≡ none) where
+  is-contradiction : r ≡ Solved.Contradiction ↔ (outcome (termsOf T) (propositionsOf T) (questionsOf T) .verdict ≡ Verdict.Contradiction)
+  is-contradiction = contradiction-returned T r (rw accepted at is)
+
+  well-formed : WellFormed (termsOf T) (listed (termsOf T) (propositionsOf T))
+  well-formed = accepted-well-formed T (passed T (roomFor T) accepted .good)
+
+  pub verdict-derived : r ≡ Solved.Contradiction ↔ Contradiction (termsOf T) (listed (termsOf T) (propositionsOf T))
+  verdict-derived =
+      let v = outcomes.verdict-exact (termsOf T) (propositionsOf T) (questionsOf T) well-formed in
+      (λ e. v .0 (is-contradiction .0 e), λ c. is-contradiction .1 (v .1 c))
+
+  pub verdict-assignments : r ≡ Solved.Contradiction ↔ ((P : Placement) → Assignment (termsOf T) (listed (termsOf T) (propositionsOf T)) P → ⊥)
+  verdict-assignments =
+      let v = outcomes.verdict-assignments (termsOf T) (propositionsOf T) (questionsOf T) well-formed in
+      (λ e. v .0 (is-contradiction .0 e), λ c. is-contradiction .1 (v .1 c))

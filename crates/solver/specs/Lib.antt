@@ -3,4 +3,5 @@ pub mod Columns
 pub mod Blaming
 pub mod Results
 pub mod Answered
+pub mod Verdict
 pub mod Demands

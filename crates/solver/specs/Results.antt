@@ -76,6 +76,16 @@ pub record Consistent (T : Tables) (reps : List ℕ) (offs : List ℤ) : Type 0 
   pub canonical : Canonical (termsOf T) (listed (termsOf T) (propositionsOf T)) (view reps offs)
   pub no-contradiction : contradictory (termsOf T) (facts (termsOf T) (propositionsOf T)) ≡ false
 
+-- what a test of all propositions found
+abbrev pub Found : Tables → List ℕ → List ℤ → Bool → Type 0
+Found T reps offs true = Consistent T reps offs
+Found T reps offs false = contradictory (termsOf T) (facts (termsOf T) (propositionsOf T)) ≡ true
+
+-- and the marks with which it was made
+pub record Judged (T : Tables) (marks0 marks reps : List ℕ) (offs : List ℤ) (r : Bool) : Type 0 where
+  pub marked : marks ≡ overwrite (replicate (T .propositions) 1) marks0
+  pub found : Found T reps offs r
+
 -- accepted tables, with room for the answers
 pub record Asked (T : Tables) (q : ℕ) (lefts : List ℕ) (zs : List ℤ) (rights : List ℕ) (r : List ℕ) (o : List ℤ) (m p a : List ℕ) : Type 0 where
   pub good : Good T
@@ -122,8 +132,9 @@ module _ (T : Tables) (good : Good T) where
       go true e = absurd (no-contradiction ts (listed ts ps) P A (contradiction-exact ts (listed ts ps) wf F (lists ts ps) .0 e))
       go false e = refl
 
-  pub when-consistent : {marks reps : List ℕ} {offs : List ℤ} → AllKept marks (T .propositions) → Decided T marks reps offs true → Consistent T reps offs
-  when-consistent {marks} {reps} {offs} A (deciding.consistent L M) =
+  -- with all propositions kept, the labels and the contradiction are those of the set
+  pub found : {marks reps : List ℕ} {offs : List ℤ} (r : Bool) → AllKept marks (T .propositions) → Decided T marks reps offs r → Found T reps offs r
+  found {marks} {reps} {offs} true A (deciding.consistent L M) =
       let same = kept-listed marks A in
       let M2 = rw same at M in
       record {
@@ -131,9 +142,7 @@ module _ (T : Tables) (good : Good T) where
         canonical = record { sound = rw same at (L .live .state .sound); respects = M2 .respects; lowest = L .live .state .lowest };
         no-contradiction = no-true (view reps offs) M2;
       }
-
-  pub when-contradictory : {marks reps : List ℕ} {offs : List ℤ} → AllKept marks (T .propositions) → Decided T marks reps offs false → contradictory ts F ≡ true
-  when-contradictory {marks} A (deciding.contradictory c) =
+  found {marks} false A (deciding.contradictory c) =
       contradiction-exact ts (listed ts ps) wf F (lists ts ps) .1 (rw (kept-listed marks A) at c)
 
   module _ (reps : List ℕ) (offs : List ℤ) (C : Consistent T reps offs) where

@@ -18,9 +18,10 @@ ghost use Rattle.outcome.specs.PairBits.{bitValue};
 ghost use Rattle.solver.specs.Columns.{AllKept, ownRepresentatives, ownOffsets};
 ghost use Rattle.outcome.specs.Outcome.{satisfiable, contradiction, outcome};
 ghost use Rattle.solver.specs.Blaming.{tried};
-ghost use Rattle.solver.specs.Results.{Consistent, Asked, questionList, Leaves, Solves};
+ghost use Rattle.solver.specs.Results.{Consistent, Judged, Asked, questionList, Leaves, Solves};
 ghost use Rattle.checks.specs.Limits.{tablesOf};
 ghost use Rattle.solver.specs.Answered.{memoryOf, Answered};
+ghost use Rattle.solver.specs.Verdict.{verdictOf};
 
 // Writes the value to the first cells.
 fn fill(cells: &mut [u8], count: usize, value: u8)
@@ -259,6 +260,44 @@ fn leave_contradiction(
     fill(answers, q, 3);
 }
 
+// Whether an accepted set is consistent. All its propositions are marked; if it is consistent, the labels are the closure's.
+fn judge(
+    n: usize,
+    kinds: &[u8],
+    numbers: &[u32],
+    zs: &[i32],
+    m: usize,
+    pkinds: &[u8],
+    lefts: &[u32],
+    pzs: &[i32],
+    rights: &[u32],
+    marks: &mut [u8],
+    reps: &mut [u32],
+    offs: &mut [i64],
+    partners: &mut [u32],
+) -> bool
+    requires { ⌜ Good (setOf n (now kinds) (now numbers) (now zs) m (now pkinds) (now lefts) (now pzs) (now rights)) ⌝ }
+    requires { ⌜ (m ≤ length (now marks)) × ((n ≤ length (now reps)) × ((n ≤ length (now offs)) × (n ≤ length (now partners)))) ⌝ }
+    ensures { λ r. ⌜ Judged (setOf n (now (kinds .entry)) (now (numbers .entry)) (now (zs .entry)) m (now (pkinds .entry)) (now (lefts .entry)) (now (pzs .entry)) (now (rights .entry))) (now (marks .entry)) (now (marks .exit)) (now (reps .exit)) (now (offs .exit)) r ⌝ }
+{
+    fill(marks, m, 1);
+    is_consistent(
+        n,
+        kinds,
+        numbers,
+        zs,
+        m,
+        pkinds,
+        lefts,
+        pzs,
+        rights,
+        marks,
+        reps,
+        offs,
+        partners,
+    )
+}
+
 // Solves an accepted set.
 fn solve_accepted(
     n: usize,
@@ -286,8 +325,7 @@ fn solve_accepted(
     let mut reps = [0u32; 512];
     let mut offs = [0i64; 512];
     let mut partners = [0u32; 512];
-    fill(marks, m, 1);
-    if is_consistent(
+    if judge(
         n,
         kinds,
         numbers,
@@ -419,4 +457,65 @@ pub fn solve(
         pairs,
         answers,
     )
+}
+
+// The verdict on the set of n terms and m propositions that the columns hold: what `solve` returns for it.
+pub fn verdict(
+    n: usize,
+    kinds: &[u8],
+    numbers: &[u32],
+    zs: &[i32],
+    m: usize,
+    pkinds: &[u8],
+    lefts: &[u32],
+    pzs: &[i32],
+    rights: &[u32],
+) -> Solved
+    ensures { λ r. ⌜ r ≡ verdictOf (setOf n (now (kinds .entry)) (now (numbers .entry)) (now (zs .entry)) m (now (pkinds .entry)) (now (lefts .entry)) (now (pzs .entry)) (now (rights .entry))) ⌝ }
+{
+    let checked = check(
+        n,
+        kinds,
+        numbers,
+        zs,
+        m,
+        pkinds,
+        lefts,
+        pzs,
+        rights,
+        0,
+        &lefts[0..0],
+        &pzs[0..0],
+        &rights[0..0],
+        n,
+        n,
+        m,
+        32768,
+        0,
+    );
+    if let Checked::Refused(r, k) = checked {
+        return Solved::Refused(r, k);
+    }
+    let mut marks = [0u8; 512];
+    let mut reps = [0u32; 512];
+    let mut offs = [0i64; 512];
+    let mut partners = [0u32; 512];
+    if !judge(
+        n,
+        kinds,
+        numbers,
+        zs,
+        m,
+        pkinds,
+        lefts,
+        pzs,
+        rights,
+        &mut marks,
+        &mut reps,
+        &mut offs,
+        &mut partners,
+    ) {
+        return Solved::Contradiction;
+    }
+    Solved::Satisfiable
 }
