@@ -1,4 +1,4 @@
-/* Bucketmonk: the proved solver for 2-pointer logic, for programs in C.
+/* Bucketmonk: the proved solver for 2-pointer logic and the reader of its texts, for programs in C.
  * Link libbucketmonk_c.a. No heap is used; one call needs at most 64 KiB of stack. Nothing is kept between calls, so calls with
  * separate memory may run at the same time. */
 #ifndef BUCKETMONK_H
@@ -20,7 +20,7 @@
 #define BUCKETMONK_DISEQUALITY 0x12       /* left != z + right */
 #define BUCKETMONK_BLOCK_DISEQUALITY 0x13 /* the blocks of left and right differ; z 0 */
 
-/* What bucketmonk_solve returns. */
+/* What bucketmonk_solve and bucketmonk_verdict return. */
 #define BUCKETMONK_SATISFIABLE 0
 #define BUCKETMONK_CONTRADICTION 1
 /* Of a result above 1: the number of the refusal, 1 to 9, and the place of the first fault.
@@ -74,5 +74,56 @@ size_t bucketmonk_solve(
     uint8_t *marks, size_t marks_length,
     uint8_t *pairs, size_t pairs_length,
     uint8_t *answers, size_t answers_length);
+
+/* The verdict alone on the set of n terms and m propositions: what bucketmonk_solve returns for the set without questions and with
+ * enough lent memory. Where the set is contradictory this takes one try, and bucketmonk_solve one more for each proposition.
+ *
+ * Needs: as bucketmonk_solve, for the tables. Leaves nothing: no memory is lent. */
+size_t bucketmonk_verdict(
+    size_t n,
+    const uint8_t *kinds, size_t kinds_length,
+    const uint32_t *numbers, size_t numbers_length,
+    const int32_t *zs, size_t zs_length,
+    size_t m,
+    const uint8_t *pkinds, size_t pkinds_length,
+    const uint32_t *lefts, size_t lefts_length,
+    const int32_t *pzs, size_t pzs_length,
+    const uint32_t *rights, size_t rights_length);
+
+/* What bucketmonk_read returns: the refusal is 0 where the text is accepted, and then the three counts are those of its records;
+ * else its number, 1 to 10, with the number of the faulty line, counted from 0, as the place.
+ * 1, 2, 3: a 513th term, proposition, question
+ * 4: a dereference names a term not listed before it
+ * 5: an atom is listed twice
+ * 6, 7: a proposition, a question names a term not listed
+ * 8: a lent column has less than 512 cells (place 0)
+ * 9: a line that is no frame, or is not ended by a line feed
+ * 10: a term after a proposition or question, or a proposition after a question */
+#define BUCKETMONK_READ_REFUSAL(result) ((unsigned)((result) >> 48))
+#define BUCKETMONK_READ_PLACE(result) ((size_t)((result) & 0xFFFFFFFFFFFF))
+#define BUCKETMONK_READ_TERMS(result) ((size_t)((result) >> 32 & 0xFFFF))
+#define BUCKETMONK_READ_PROPOSITIONS(result) ((size_t)((result) >> 16 & 0xFFFF))
+#define BUCKETMONK_READ_QUESTIONS(result) ((size_t)((result) & 0xFFFF))
+
+/* Reads a text, one frame of hexadecimal digits a line, into the tables that bucketmonk_solve takes.
+ *
+ * Needs: every pointer is valid for the length given after it (in elements) and not null, also where the length is 0; the ten lent
+ * columns overlap nothing else. Nothing else is asked: every text and every length gets an answer.
+ * Lent: 512 cells in each column, or more.
+ *
+ * Leaves, where the text is accepted: record k of each table in cell k of the table's columns. Cells beyond the counts are unchanged.
+ * A refused text changes nothing. */
+size_t bucketmonk_read(
+    const uint8_t *text, size_t text_length,
+    uint8_t *kinds, size_t kinds_length,
+    uint32_t *numbers, size_t numbers_length,
+    int32_t *zs, size_t zs_length,
+    uint8_t *pkinds, size_t pkinds_length,
+    uint32_t *lefts, size_t lefts_length,
+    int32_t *pzs, size_t pzs_length,
+    uint32_t *rights, size_t rights_length,
+    uint32_t *qlefts, size_t qlefts_length,
+    int32_t *qzs, size_t qzs_length,
+    uint32_t *qrights, size_t qrights_length);
 
 #endif

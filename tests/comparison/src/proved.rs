@@ -1,5 +1,6 @@
 //! The exported functions of the static library, as `include/bucketmonk.h` declares them.
 
+use second_solver::reader::Tables;
 use second_solver::tables::{Input, Lent, Outcome};
 
 extern "C" {
@@ -40,6 +41,58 @@ extern "C" {
     ) -> usize;
 
     fn bucketmonk_output(text: *const u8, text_length: usize, out: *mut u8, out_length: usize) -> usize;
+
+    fn bucketmonk_verdict(
+        n: usize,
+        kinds: *const u8,
+        kinds_length: usize,
+        numbers: *const u32,
+        numbers_length: usize,
+        zs: *const i32,
+        zs_length: usize,
+        m: usize,
+        pkinds: *const u8,
+        pkinds_length: usize,
+        lefts: *const u32,
+        lefts_length: usize,
+        pzs: *const i32,
+        pzs_length: usize,
+        rights: *const u32,
+        rights_length: usize,
+    ) -> usize;
+
+    fn bucketmonk_read(
+        text: *const u8,
+        text_length: usize,
+        kinds: *mut u8,
+        kinds_length: usize,
+        numbers: *mut u32,
+        numbers_length: usize,
+        zs: *mut i32,
+        zs_length: usize,
+        pkinds: *mut u8,
+        pkinds_length: usize,
+        lefts: *mut u32,
+        lefts_length: usize,
+        pzs: *mut i32,
+        pzs_length: usize,
+        rights: *mut u32,
+        rights_length: usize,
+        qlefts: *mut u32,
+        qlefts_length: usize,
+        qzs: *mut i32,
+        qzs_length: usize,
+        qrights: *mut u32,
+        qrights_length: usize,
+    ) -> usize;
+}
+
+fn outcome(code: usize) -> Outcome {
+    match code {
+        0 => Outcome::Satisfiable,
+        1 => Outcome::Contradiction,
+        _ => Outcome::Refused { number: (code >> 16) as u8, place: (code & 0xFFFF) as u16 },
+    }
 }
 
 /// Solves the set with the proved solver.
@@ -82,10 +135,67 @@ pub fn solve(input: &Input, lent: &mut Lent) -> Outcome {
             lent.answers.len(),
         )
     };
-    match code {
-        0 => Outcome::Satisfiable,
-        1 => Outcome::Contradiction,
-        _ => Outcome::Refused { number: (code >> 16) as u8, place: (code & 0xFFFF) as u16 },
+    outcome(code)
+}
+
+/// The verdict alone on the set, without its questions.
+pub fn verdict(input: &Input) -> Outcome {
+    // SAFETY: each pointer comes with the length of its slice.
+    let code = unsafe {
+        bucketmonk_verdict(
+            input.n,
+            input.term_kind.as_ptr(),
+            input.term_kind.len(),
+            input.term_number.as_ptr(),
+            input.term_number.len(),
+            input.term_offset.as_ptr(),
+            input.term_offset.len(),
+            input.m,
+            input.proposition_kind.as_ptr(),
+            input.proposition_kind.len(),
+            input.proposition_left.as_ptr(),
+            input.proposition_left.len(),
+            input.proposition_offset.as_ptr(),
+            input.proposition_offset.len(),
+            input.proposition_right.as_ptr(),
+            input.proposition_right.len(),
+        )
+    };
+    outcome(code)
+}
+
+/// Reads a text into the columns: the counts of terms, propositions and questions, or the number of the refusal and its frame.
+pub fn read(text: &[u8], tables: &mut Tables) -> Result<[usize; 3], (u8, usize)> {
+    // SAFETY: each pointer comes with the length of its slice, and the lent columns are exclusive.
+    let code = unsafe {
+        bucketmonk_read(
+            text.as_ptr(),
+            text.len(),
+            tables.term_kind.as_mut_ptr(),
+            tables.term_kind.len(),
+            tables.term_number.as_mut_ptr(),
+            tables.term_number.len(),
+            tables.term_offset.as_mut_ptr(),
+            tables.term_offset.len(),
+            tables.proposition_kind.as_mut_ptr(),
+            tables.proposition_kind.len(),
+            tables.proposition_left.as_mut_ptr(),
+            tables.proposition_left.len(),
+            tables.proposition_offset.as_mut_ptr(),
+            tables.proposition_offset.len(),
+            tables.proposition_right.as_mut_ptr(),
+            tables.proposition_right.len(),
+            tables.question_left.as_mut_ptr(),
+            tables.question_left.len(),
+            tables.question_offset.as_mut_ptr(),
+            tables.question_offset.len(),
+            tables.question_right.as_mut_ptr(),
+            tables.question_right.len(),
+        )
+    };
+    match code >> 48 {
+        0 => Ok([code >> 32, code >> 16, code].map(|count| count & 0xFFFF)),
+        number => Err((number as u8, code & 0xFFFF_FFFF_FFFF)),
     }
 }
 

@@ -92,6 +92,26 @@ impl Set {
         }
     }
 
+    /// The set as a text.
+    pub fn text(&self) -> Vec<u8> {
+        let mut lines = String::new();
+        for k in 0..self.n {
+            let (kind, number) = (self.term_kind[k], self.term_number[k]);
+            let offset = if kind == 3 { format!("{:08X}", self.term_offset[k]) } else { String::new() };
+            lines += &format!("{kind:02X}{number:04X}{offset}\n");
+        }
+        for k in 0..self.m {
+            let (kind, left, right) = (self.proposition_kind[k], self.proposition_left[k], self.proposition_right[k]);
+            let offset = if kind == 0x13 { String::new() } else { format!("{:08X}", self.proposition_offset[k]) };
+            lines += &format!("{kind:02X}{left:04X}{offset}{right:04X}\n");
+        }
+        for k in 0..self.q {
+            let (left, offset, right) = (self.question_left[k], self.question_offset[k], self.question_right[k]);
+            lines += &format!("21{left:04X}{offset:08X}{right:04X}\n");
+        }
+        lines.into_bytes()
+    }
+
     /// The cells that each lent array needs.
     pub fn needed(&self) -> [usize; 5] {
         [self.n, self.n, self.m, pair_bytes(self.n.min(1024)), self.q]
@@ -289,4 +309,23 @@ pub fn tangle(r: &mut Numbers, size: usize) -> Set {
 pub fn questions(r: &mut Numbers, set: &mut Set, size: usize) {
     let count = size - set.q;
     ask(r, set, count);
+}
+
+/// As many terms, propositions and questions as `size`, of the longest lines: dereferences after one atom, or atoms alone.
+pub fn long_lines(r: &mut Numbers, size: usize, atoms: bool) -> Set {
+    let mut set = Set::default();
+    for k in 0..size {
+        if atoms || k == 0 {
+            set.term(2, k, 0);
+        } else {
+            let offset = r.offset();
+            set.term(3, k - 1, offset);
+        }
+    }
+    for _ in 0..size {
+        let (left, offset, right) = (r.below(size), r.offset(), r.below(size));
+        set.proposition(0x12, left, offset, right);
+    }
+    questions(r, &mut set, size);
+    set
 }
