@@ -1,5 +1,6 @@
 // The solver and the reader for programs in C. The header is include/bucketmonk.h.
 use reader::ReadResult;
+use reader::faulty_part;
 use reader::read;
 use solver::solve;
 use solver::verdict;
@@ -13,6 +14,7 @@ ghost use Rattle.checks.specs.Limits.{tablesOf};
 ghost use Rattle.solver.specs.Answered.{memoryOf};
 ghost use Rattle.solver.specs.Verdict.{verdictOf};
 ghost use Rattle.reader.specs.Columns.{columns};
+ghost use Rattle.reader.specs.Answers.{faultyPart};
 ghost use Rattle.bucketmonk_c.specs.Numbers.{solvedNumber, readNumber, ReadAsNumber};
 
 // The number of a refusal.
@@ -177,4 +179,20 @@ pub extern "C" fn bucketmonk_read(
         question_rights,
     );
     read_number(found)
+}
+
+// `faulty_part`: its length, and its start in the lent cell.
+#[no_mangle]
+pub extern "C" fn bucketmonk_faulty_line(
+    text: &[u8],
+    terms: usize,
+    propositions: usize,
+    questions: usize,
+    start: &mut usize,
+) -> usize
+    ensures { λ r. ⌜ (r ≡ faultyPart (now (text .entry)) terms propositions questions .size) × (now (start .exit) ≡ faultyPart (now (text .entry)) terms propositions questions .start) ⌝ }
+{
+    let part = faulty_part(text, terms, propositions, questions);
+    *start = part.start;
+    part.size
 }

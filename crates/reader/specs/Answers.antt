@@ -1,6 +1,6 @@
 -- The answers of the public functions, and every lent cell afterwards.
 use Prim.Native.Nat.{ℕ, _+_, _-_, _≤_, min}
-use mathlib.Core.Path.{_≡_, refl, _∙_}
+use mathlib.Core.Path.{_≡_, refl, sym, _∙_, ap}
 use mathlib.Core.Bool.{Bool, true, false}
 use mathlib.Core.List.{List}
 use native.Mathlib.Omega.{arith}
@@ -56,17 +56,26 @@ pub record ReadAs (text : List ℕ) (C : Columns) (r : ReadResult) (D : Columns)
 unfoldable pub faultyPart : List ℕ → ℕ → ℕ → ℕ → Part
 faultyPart text terms propositions questions = choose (enough terms propositions questions) (partOf text (reading text)) (record { start = 0; size = 0 })
 
+-- a part stands at a and has b characters, all in the text
+pub record PartAt (text : List ℕ) (a b : ℕ) (p : Part) : Type 0 where
+  pub start : a ≡ p .start
+  pub size : b ≡ p .size
+  pub within : a + b ≤ length text
+
+pub part-at : (text : List ℕ) (a b : ℕ) (p : Part) → p ≡ record { start = a; size = b } → a + b ≤ length text → PartAt text a b p
+part-at text a b p e within = record { start = ap (λ (q : Part). q .start) (sym e); size = ap (λ (q : Part). q .size) (sym e); within = within }
+
 -- r is that part of the text, where it lies
 pub record HandedBack (text r : RefT (List ℕ)) (p : Part) : Type 0 where
   pub place : r .ptr ≡ (text .ptr .0, p .start + text .ptr .1)
   pub characters : now r ≡ take (p .size) (drop (p .start) (now text))
 
 pub handed-back : (text r : RefT (List ℕ)) (p : Part) (start size : ℕ)
-    → p ≡ record { start = start; size = size }
+    → PartAt (now text) start size p
     → r .ptr ≡ (text .ptr .0, start + text .ptr .1)
     → now r ≡ take size (drop start (now text))
     → HandedBack text r p
-handed-back text r p start size e place characters = rw e (record { place = place; characters = characters })
+handed-back text r p start size e place characters = rw (← (e .start), ← (e .size)) (record { place = place; characters = characters })
 
 least-both : (m a b : ℕ) → m ≤ min a b → (m ≤ a) × (m ≤ b)
 least-both m a b h = omega arith

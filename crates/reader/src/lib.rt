@@ -11,7 +11,7 @@ use types::Refusal;
 ghost use mathlib.Core.Path.{_≡_};
 ghost use Prim.Native.Nat.{min};
 ghost use Rattle.reader.specs.Columns.{columns};
-ghost use Rattle.reader.specs.Answers.{enough, ReadAs, faultyPart, HandedBack};
+ghost use Rattle.reader.specs.Answers.{enough, ReadAs, faultyPart, PartAt, HandedBack};
 
 // The most terms, propositions and questions.
 pub const MOST: usize = 512;
@@ -99,6 +99,12 @@ pub enum ReadResult {
         refusal: Refusal,
         frame: usize,
     },
+}
+
+// Where a faulty line stands in a text.
+pub struct FaultyPart {
+    pub start: usize,
+    pub size: usize,
 }
 
 fn least(a: usize, b: usize) -> usize
@@ -200,12 +206,12 @@ pub fn read(
     }
 }
 
-// The faulty line of a text without its LF, for tables with room for so many records; on success an empty part at the start.
-pub fn faulty_line(text: &[u8], terms: usize, propositions: usize, questions: usize) -> &[u8]
-    ensures { λ r. ⌜ HandedBack (text .entry) r (faultyPart (now (text .entry)) terms propositions questions) ⌝ }
+// Where the faulty line of a text without its LF stands, for tables with room for so many records; on success an empty part at the start.
+pub fn faulty_part(text: &[u8], terms: usize, propositions: usize, questions: usize) -> FaultyPart
+    ensures { λ r. ⌜ PartAt (now (text .entry)) (r .start) (r .size) (faultyPart (now (text .entry)) terms propositions questions) ⌝ }
 {
     if !enough(terms, propositions, questions) {
-        return &text[0..0];
+        return FaultyPart { start: 0, size: 0 };
     }
     match judge(text) {
         Loaded::Refused {
@@ -213,7 +219,20 @@ pub fn faulty_line(text: &[u8], terms: usize, propositions: usize, questions: us
             frame: _,
             start,
             end,
-        } => &text[start..end],
-        Loaded::Accepted(_) => &text[0..0],
+        } => FaultyPart {
+            start,
+            size: end - start,
+        },
+        Loaded::Accepted(_) => FaultyPart { start: 0, size: 0 },
     }
+}
+
+// That part of the text.
+pub fn faulty_line(text: &[u8], terms: usize, propositions: usize, questions: usize) -> &[u8]
+    ensures { λ r. ⌜ HandedBack (text .entry) r (faultyPart (now (text .entry)) terms propositions questions) ⌝ }
+{
+    let part = faulty_part(text, terms, propositions, questions);
+    let start = part.start;
+    let end = start + part.size;
+    &text[start..end]
 }
