@@ -126,4 +126,12 @@ size_t bucketmonk_read(
     int32_t *qzs, size_t qzs_length,
     uint32_t *qrights, size_t qrights_length);
 
+/* Where the faulty line of a text stands, for tables with room for so many terms, propositions and questions: the least length of a
+ * table's columns in bucketmonk_read.
+ *
+ * Needs: text is valid for its length and start for one number, neither is null, and start overlaps nothing else.
+ * Returns the length of the line, without its line feed, and leaves its first byte's place in *start. Both are 0 where the text is
+ * accepted or the room is less than 512. */
+size_t bucketmonk_faulty_line(const uint8_t *text, size_t text_length, size_t terms, size_t propositions, size_t questions, size_t *start);
+
 #endif

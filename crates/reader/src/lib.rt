@@ -219,10 +219,10 @@ pub fn faulty_part(text: &[u8], terms: usize, propositions: usize, questions: us
             frame: _,
             start,
             end,
-        } => FaultyPart {
-            start,
-            size: end - start,
-        },
+        } => {
+            let size = end - start;
+            FaultyPart { start, size }
+        }
         Loaded::Accepted(_) => FaultyPart { start: 0, size: 0 },
     }
 }

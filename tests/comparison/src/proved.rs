@@ -2,6 +2,7 @@
 
 use second_solver::reader::Tables;
 use second_solver::tables::{Input, Lent, Outcome};
+use std::ops::Range;
 
 extern "C" {
     fn bucketmonk_solve(
@@ -84,6 +85,15 @@ extern "C" {
         qzs_length: usize,
         qrights: *mut u32,
         qrights_length: usize,
+    ) -> usize;
+
+    fn bucketmonk_faulty_line(
+        text: *const u8,
+        text_length: usize,
+        terms: usize,
+        propositions: usize,
+        questions: usize,
+        start: *mut usize,
     ) -> usize;
 }
 
@@ -207,4 +217,26 @@ pub const LARGEST_OUTPUT: usize = 5 + 512 * 27 + 512 * 9;
 pub fn output(text: &[u8], out: &mut [u8]) -> usize {
     // SAFETY: each pointer comes with the length of its slice, and `out` is exclusive.
     unsafe { bucketmonk_output(text.as_ptr(), text.len(), out.as_mut_ptr(), out.len()) }
+
+/// Where the faulty line of a text stands, for tables with room for so many terms, propositions and questions.
+pub fn faulty_line(text: &[u8], room: [usize; 3]) -> Range<usize> {
+    let mut start = 0;
+    // SAFETY: the pointer comes with the length of its slice, and the lent number is exclusive.
+    let length = unsafe { bucketmonk_faulty_line(text.as_ptr(), text.len(), room[0], room[1], room[2], &mut start) };
+    start..start + length
+}
+
+/// The columns with zeros up to so many cells.
+pub fn padded(mut tables: Tables, cells: usize) -> Tables {
+    tables.term_kind.resize(cells, 0);
+    tables.term_number.resize(cells, 0);
+    tables.term_offset.resize(cells, 0);
+    tables.proposition_kind.resize(cells, 0);
+    tables.proposition_left.resize(cells, 0);
+    tables.proposition_offset.resize(cells, 0);
+    tables.proposition_right.resize(cells, 0);
+    tables.question_left.resize(cells, 0);
+    tables.question_offset.resize(cells, 0);
+    tables.question_right.resize(cells, 0);
+    tables
 }

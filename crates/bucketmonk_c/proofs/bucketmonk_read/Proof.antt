@@ -4,10 +4,6 @@ use Rattle.bucketmonk_c.specs.Numbers.{readNumber}
 use borrow.Author.Needs.{needs}
 use Rattle.bucketmonk_c.proofs.bucketmonk_read.Statement.{statement}
 use Rattle.bucketmonk_c.proofs.bucketmonk_read.Tie as tie
-use Rattle.bucketmonk_c.proofs.bucketmonk_read.Reads as reads
-use Rattle.bucketmonk_c.proofs.bucketmonk_read.Lts as lts
-use Rattle.bucketmonk_c.proofs.read_number.Reads as read-number-reads
-use Rattle.reader.proofs.read.Reads as read-reads
 
 read-requires : tie.Need-read-requires
 read-requires c κs = search needs

@@ -4,10 +4,6 @@ use Rattle.bucketmonk_c.specs.Numbers.{solvedNumber}
 use borrow.Author.Needs.{needs}
 use Rattle.bucketmonk_c.proofs.bucketmonk_verdict.Statement.{statement}
 use Rattle.bucketmonk_c.proofs.bucketmonk_verdict.Tie as tie
-use Rattle.bucketmonk_c.proofs.bucketmonk_verdict.Reads as reads
-use Rattle.bucketmonk_c.proofs.bucketmonk_verdict.Lts as lts
-use Rattle.bucketmonk_c.proofs.solved_number.Reads as solved-number-reads
-use Rattle.solver.proofs.verdict.Reads as verdict-reads
 
 verdict-requires : tie.Need-verdict-requires
 verdict-requires c κs = search needs

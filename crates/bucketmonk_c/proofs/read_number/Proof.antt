@@ -2,9 +2,6 @@
 use borrow.Author.Needs.{needs}
 use Rattle.bucketmonk_c.proofs.read_number.Statement.{statement}
 use Rattle.bucketmonk_c.proofs.read_number.Tie as tie
-use Rattle.bucketmonk_c.proofs.read_number.Reads as reads
-use Rattle.bucketmonk_c.proofs.read_number.Lts as lts
-use Rattle.bucketmonk_c.proofs.refusal_number.Reads as refusal-number-reads
 
 enum-known-r : tie.Need-enum-known-r
 enum-known-r c = search needs

@@ -6,9 +6,6 @@ use Rattle.reader.specs.Answers.{handed-back}
 use borrow.Author.Needs.{needs}
 use Rattle.reader.proofs.faulty_line.Statement.{statement}
 use Rattle.reader.proofs.faulty_line.Tie as tie
-use Rattle.reader.proofs.faulty_line.Reads as reads
-use Rattle.reader.proofs.faulty_line.Lts as lts
-use Rattle.reader.proofs.faulty_part.Reads as faulty-part-reads
 
 faulty-part-requires : tie.Need-faulty-part-requires
 faulty-part-requires c κs = search needs

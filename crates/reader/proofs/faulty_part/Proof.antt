@@ -7,10 +7,6 @@ use Rattle.reader.specs.Answers.{part-at, part-short, part-order, part-r
 use borrow.Author.Needs.{needs}
 use Rattle.reader.proofs.faulty_part.Statement.{statement}
 use Rattle.reader.proofs.faulty_part.Tie as tie
-use Rattle.reader.proofs.faulty_part.Reads as reads
-use Rattle.reader.proofs.faulty_part.Lts as lts
-use Rattle.reader.proofs.enough.Reads as enough-reads
-use Rattle.reader.proofs.load.judge.Reads as judge-reads
 
 enough-requires : tie.Need-enough-requires
 enough-requires c κs = search needs
@@ -28,9 +24,10 @@ enum-known-start c = search needs
 order : (c : tie.After-known-told) → c .before .start .given .0 .1 .1 .0 ≤ c .before .start .given .0 .1 .1 .1 .0
 order c = part-order _ _ _ _ _ (sym (c .before .start .given .1) ∙ c .before .before .before .judge .ensures .answer)
 
-sub-t11 : tie.Need-sub-t11
-sub-t11 c =
-    order c
+sub-size : tie.Need-sub-size
+sub-size c =
+    let within = rw (c .before .start .given .1) at (c .before .before .before .judge .ensures .within) in
+    omega (arith, order c, within)
 
 enum-told : tie.Need-enum-told
 enum-told c = search needs
@@ -52,7 +49,7 @@ faulty-part-spec =
     returns
     judge-requires
     enum-known-start
-    sub-t11
+    sub-size
     enum-told
     returns-2
     returns-3)

@@ -74,26 +74,10 @@ fn blame(name: &str, set: &Set) {
     );
 }
 
-/// Columns with room for 512 records in each table.
-fn room() -> Tables {
-    Tables {
-        term_kind: vec![0; 512],
-        term_number: vec![0; 512],
-        term_offset: vec![0; 512],
-        proposition_kind: vec![0; 512],
-        proposition_left: vec![0; 512],
-        proposition_offset: vec![0; 512],
-        proposition_right: vec![0; 512],
-        question_left: vec![0; 512],
-        question_offset: vec![0; 512],
-        question_right: vec![0; 512],
-    }
-}
-
 /// Both readers on a text that fills all tables.
 fn reading(name: &str, set: &Set) {
     let text = set.text();
-    let mut lent = room();
+    let mut lent = proved::padded(Tables::default(), 512);
     let counts = proved::read(&text, &mut lent);
     assert_eq!(counts, Ok([512, 512, 512]));
     assert_eq!(reader::read(&text, [512; 3]), Ok(lent.clone()));

@@ -1,8 +1,10 @@
 //! Compares the proved solver with the second solver: 20,000 small sets, whole and damaged, and 200 full sets. Every returned value
-//! and every lent cell is compared, with 3 cells beyond what is lent to hold guard values. Last line: "N passed, M failed".
+//! and every lent cell is compared, with 3 cells beyond what is lent to hold guard values; so is the verdict alone. Then both readers on
+//! 20,000 small texts, whole and damaged, and 20 full ones. Last line: "N passed, M failed".
 
 use comparison::proved;
 use comparison::sets::{self, Numbers, Set};
+use second_solver::reader::{self, Tables};
 use second_solver::tables::{self, Input, Lent, Outcome};
 
 const GUARD: usize = 3;
@@ -58,8 +60,53 @@ fn agree(r: &mut Numbers, set: &Set, more: usize) -> (bool, Outcome) {
     let mut right = left.clone();
     let a = if set.n < 512 { run(proved::solve, set, cells, &mut left) } else { run_in_64_kib(set, cells, &mut left) };
     let b = run(tables::solve, set, cells, &mut right);
-    let unchanged = !matches!(a, Outcome::Refused { .. }) || left == before;
-    (a == b && left == right && unchanged, a)
+    let refused = matches!(a, Outcome::Refused { .. });
+    let unchanged = !refused || left == before;
+    let alone = proved::verdict(&set.input()) == if refused { without_questions(r, set) } else { b };
+    (a == b && left == right && unchanged && alone, a)
+}
+
+/// What the second solver returns for the set without its questions, with enough memory.
+fn without_questions(r: &mut Numbers, set: &Set) -> Outcome {
+    let set = Set { q: 0, missing: [0; 5], ..set.clone() };
+    let cells = set.needed();
+    run(tables::solve, &set, cells, &mut memory(r, cells))
+}
+
+/// Damages a text in one place; some damages leave it acceptable.
+fn damage_text(r: &mut Numbers, text: &mut Vec<u8>) {
+    const BYTES: &[u8] = b"0123456789ABCDEFa\r\n ";
+    let at = r.below(text.len() + 1);
+    let byte = BYTES[r.below(BYTES.len())];
+    match r.below(4) {
+        0 => text.insert(at, byte),
+        1 if at < text.len() => text[at] = byte,
+        2 if at < text.len() => (text.remove(at), ()).1,
+        _ => {
+            // a line again at the end
+            let from = text[..at].iter().rposition(|&b| b == b'\n').map_or(0, |k| k + 1);
+            let line: Vec<u8> = text[from..].iter().copied().take_while(|&b| b != b'\n').chain([b'\n']).collect();
+            text.extend(line);
+        }
+    }
+}
+
+/// Whether both readers answer and leave the same and hand back the same part, with the number of the refusal or 0.
+fn texts_agree(text: &[u8], cells: usize) -> (bool, usize) {
+    let before = proved::padded(Tables::default(), cells);
+    let mut lent = before.clone();
+    let ours = proved::read(text, &mut lent);
+    let part = proved::faulty_line(text, [cells; 3]);
+    match reader::read(text, [cells; 3]) {
+        Ok(tables) => {
+            let counts = [tables.term_kind.len(), tables.proposition_kind.len(), tables.question_left.len()];
+            (ours == Ok(counts) && lent == proved::padded(tables, cells) && part == (0..0), 0)
+        }
+        Err(refusal) => {
+            let told = Err((refusal.number, usize::from(refusal.frame)));
+            (ours == told && lent == before && part == refusal.part, usize::from(refusal.number))
+        }
+    }
 }
 
 fn full(r: &mut Numbers, k: usize) -> Set {
@@ -129,6 +176,23 @@ fn main() {
             println!("refusal {number} did not occur");
         }
     }
+    let mut texts = [0usize; 11];
+    for k in 0..20_020 {
+        let set = if k < 20 { sets::long_lines(&mut r, 512, k % 4 < 2) } else { sets::small(&mut r) };
+        let mut text = set.text();
+        if k % 2 == 1 {
+            damage_text(&mut r, &mut text);
+        }
+        let (same, number) = texts_agree(&text, if r.one_in(50) { 511 } else { 512 });
+        texts[number] += 1;
+        if same {
+            passed += 1;
+        } else {
+            failed += 1;
+            println!("text {k}: the readers differ");
+        }
+    }
+    println!("texts accepted {}, refused by number {:?}", texts[0], &texts[1..]);
     println!("{passed} passed, {failed} failed");
     std::process::exit(i32::from(failed > 0));
 }
