@@ -1,7 +1,9 @@
 -- The number that stands for what a call returns.
-use Prim.Native.Nat.{ℕ, _+_, _*_, _%_, _^_}
+use Prim.Native.Nat.{ℕ, _+_, _*_, _%_, _^_, _≤_}
 use mathlib.Core.Path.{_≡_}
 use mathlib.Core.List.{List}
+use native.Mathlib.Omega.{arith}
+use Rattle.types.specs.declared.Refusal.{Refusal}
 use Rattle.types.specs.declared.Solved.{Solved}
 use Rattle.types.specs.Numbers.{refusalNumber}
 use Rattle.reader.specs.declared.ReadResult.{ReadResult}
@@ -24,3 +26,15 @@ readNumber (ReadResult.Refused r k) = 2 ^ 48 * refusalNumber r + k % 2 ^ 48
 pub record ReadAsNumber (text : List ℕ) (C : Columns) (r : ℕ) (D : Columns) : Type 0 where
   pub result : r ≡ readNumber (answer (readInto C text))
   pub cells : D ≡ left (readInto C text) C
+
+pub refusal-small : (r : Refusal) → refusalNumber r ≤ 10
+refusal-small Refusal.TooManyTerms = omega arith
+refusal-small Refusal.TooManyPropositions = omega arith
+refusal-small Refusal.TooManyQuestions = omega arith
+refusal-small Refusal.InnerNotListed = omega arith
+refusal-small Refusal.AtomListedTwice = omega arith
+refusal-small Refusal.PropositionTermNotListed = omega arith
+refusal-small Refusal.QuestionTermNotListed = omega arith
+refusal-small Refusal.TooShort = omega arith
+refusal-small Refusal.Malformed = omega arith
+refusal-small Refusal.GroupOrder = omega arith

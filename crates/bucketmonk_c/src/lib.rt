@@ -1,4 +1,5 @@
-// The solver and the reader for programs in C. The header is include/bucketmonk.h.
+// The solver, the reader and the program's output for programs in C. The header is include/bucketmonk.h.
+use output::write_output;
 use reader::ReadResult;
 use reader::faulty_part;
 use reader::read;
@@ -6,33 +7,25 @@ use solver::solve;
 use solver::verdict;
 use types::Refusal;
 use types::Solved;
+use types::refusal_number;
 ghost use Prim.Native.Nat.{_≤_};
 ghost use mathlib.Core.Path.{_≡_};
 ghost use Rattle.types.specs.Numbers.{refusalNumber};
-ghost use Rattle.tables.specs.Call.{room, refusal, returned, left, setOf};
+ghost use lib.ListN.{length};
+ghost use Rattle.tables.specs.Call.{overwrite, room, refusal, returned, left, setOf};
 ghost use Rattle.checks.specs.Limits.{tablesOf};
 ghost use Rattle.solver.specs.Answered.{memoryOf};
 ghost use Rattle.solver.specs.Verdict.{verdictOf};
 ghost use Rattle.reader.specs.Columns.{columns};
 ghost use Rattle.reader.specs.Answers.{faultyPart};
+ghost use Rattle.output.specs.Written.{written};
 ghost use Rattle.bucketmonk_c.specs.Numbers.{solvedNumber, readNumber, ReadAsNumber};
 
-// The number of a refusal.
-fn refusal_number(r: Refusal) -> usize
+// The number of a refusal, as wide as a result.
+fn number_of(r: Refusal) -> usize
     ensures { λ k. ⌜ (k ≡ refusalNumber r) × (k ≤ 10) ⌝ }
 {
-    match r {
-        Refusal::TooManyTerms => 1,
-        Refusal::TooManyPropositions => 2,
-        Refusal::TooManyQuestions => 3,
-        Refusal::InnerNotListed => 4,
-        Refusal::AtomListedTwice => 5,
-        Refusal::PropositionTermNotListed => 6,
-        Refusal::QuestionTermNotListed => 7,
-        Refusal::TooShort => 8,
-        Refusal::Malformed => 9,
-        Refusal::GroupOrder => 10,
-    }
+    refusal_number(r) as usize
 }
 
 // The number of what a call returns.
@@ -42,7 +35,7 @@ fn solved_number(s: Solved) -> usize
     match s {
         Solved::Satisfiable => 0,
         Solved::Contradiction => 1,
-        Solved::Refused(refusal, place) => 65536 * refusal_number(refusal) + place % 65536,
+        Solved::Refused(refusal, place) => 65536 * number_of(refusal) + place % 65536,
     }
 }
 
@@ -123,7 +116,7 @@ fn read_number(r: ReadResult) -> usize
             questions,
         } => 4294967296 * (terms % 65536) + 65536 * (propositions % 65536) + questions % 65536,
         ReadResult::Refused { refusal, frame } => {
-            281474976710656 * refusal_number(refusal) + frame % 281474976710656
+            281474976710656 * number_of(refusal) + frame % 281474976710656
         }
     }
 }
@@ -195,4 +188,13 @@ pub extern "C" fn bucketmonk_faulty_line(
     let part = faulty_part(text, terms, propositions, questions);
     *start = part.start;
     part.size
+}
+
+// What the program writes for a text, in a buffer.
+#[no_mangle]
+pub extern "C" fn bucketmonk_output(text: &[u8], out: &mut [u8]) -> usize
+    ensures { λ r. ⌜ r ≡ length (written (now (text .entry)) (length (now (out .entry)))) ⌝ }
+    ensures { λ _. ⌜ now (out .exit) ≡ overwrite (written (now (text .entry)) (length (now (out .entry)))) (now (out .entry)) ⌝ }
+{
+    write_output(text, out)
 }

@@ -217,6 +217,7 @@ pub const LARGEST_OUTPUT: usize = 5 + 512 * 27 + 512 * 9;
 pub fn output(text: &[u8], out: &mut [u8]) -> usize {
     // SAFETY: each pointer comes with the length of its slice, and `out` is exclusive.
     unsafe { bucketmonk_output(text.as_ptr(), text.len(), out.as_mut_ptr(), out.len()) }
+}
 
 /// Where the faulty line of a text stands, for tables with room for so many terms, propositions and questions.
 pub fn faulty_line(text: &[u8], room: [usize; 3]) -> Range<usize> {

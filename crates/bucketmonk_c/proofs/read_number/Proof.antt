@@ -21,8 +21,8 @@ add-result-2 c = search needs
 enum-known-r-2 : tie.Need-enum-known-r-2
 enum-known-r-2 c = search needs
 
-refusal-number-requires : tie.Need-refusal-number-requires
-refusal-number-requires c κs = search needs
+number-of-requires : tie.Need-number-of-requires
+number-of-requires c κs = search needs
 
 mul-result-3 : tie.Need-mul-result-3
 mul-result-3 c = search needs
@@ -36,7 +36,7 @@ returns c =
 
 returns-2 : tie.Need-returns-2
 returns-2 c =
-    rw (c .before .before .r2 .given .1, c .refusal-number .ensures .0)
+    rw (c .before .before .r2 .given .1, c .number-of .ensures .0)
 
 pub read-number-spec : {M : Type 1} → statement M
 read-number-spec =
@@ -48,7 +48,7 @@ read-number-spec =
     add-result
     add-result-2
     enum-known-r-2
-    refusal-number-requires
+    number-of-requires
     mul-result-3
     add-result-3
     returns

@@ -4,7 +4,7 @@ use Rattle.bucketmonk_c.proofs.solved_number.Statement.{statement}
 use Rattle.bucketmonk_c.proofs.solved_number.Tie as tie
 use Rattle.bucketmonk_c.proofs.solved_number.Reads as reads
 use Rattle.bucketmonk_c.proofs.solved_number.Lts as lts
-use Rattle.bucketmonk_c.proofs.refusal_number.Reads as refusal-number-reads
+use Rattle.bucketmonk_c.proofs.number_of.Reads as number-of-reads
 
 -- src/lib.rt:35:32
 enum-told : tie.Need-enum-told
@@ -19,8 +19,8 @@ enum-known-s : tie.Need-enum-known-s
 enum-known-s c = search needs
 
 -- src/lib.rt:37:52
-refusal-number-requires : tie.Need-refusal-number-requires
-refusal-number-requires c κs = search needs
+number-of-requires : tie.Need-number-of-requires
+number-of-requires c κs = search needs
 
 -- src/lib.rt:37:44
 mul-result : tie.Need-mul-result
@@ -41,7 +41,7 @@ returns-2 c = search needs
 -- src/lib.rt:31:1
 returns-3 : tie.Need-returns-3
 returns-3 c =
-    rw (c .before .before .s .given .1, c .refusal-number .ensures .0)
+    rw (c .before .before .s .given .1, c .number-of .ensures .0)
 
 pub solved-number-spec : {M : Type 1} → statement M
 solved-number-spec =
@@ -50,7 +50,7 @@ solved-number-spec =
     enum-told
     enum-told-2
     enum-known-s
-    refusal-number-requires
+    number-of-requires
     mul-result
     add-result
     returns
