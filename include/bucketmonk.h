@@ -1,6 +1,6 @@
 /* Bucketmonk: the proved solver for 2-pointer logic and the reader of its texts, for programs in C.
- * Link libbucketmonk_c.a. No heap is used; one call needs at most 64 KiB of stack. Nothing is kept between calls, so calls with
- * separate memory may run at the same time. */
+ * Link libbucketmonk_c.a. No heap is used; one call needs at most 64 KiB of stack, bucketmonk_output at most 128 KiB. Nothing is kept
+ * between calls, so calls with separate memory may run at the same time. */
 #ifndef BUCKETMONK_H
 #define BUCKETMONK_H
 
@@ -133,5 +133,18 @@ size_t bucketmonk_read(
  * Returns the length of the line, without its line feed, and leaves its first byte's place in *start. Both are 0 where the text is
  * accepted or the room is less than 512. */
 size_t bucketmonk_faulty_line(const uint8_t *text, size_t text_length, size_t terms, size_t propositions, size_t questions, size_t *start);
+
+/* Bytes of the largest output: a verdict, 512 terms and 512 questions. */
+#define BUCKETMONK_LARGEST_OUTPUT 18437
+
+/* Writes to out what the program bucketmonk writes for a text: one frame of hexadecimal digits a line.
+ *
+ * Needs: text and out are valid for their lengths and not null, also where a length is 0, and out overlaps nothing else. Every text
+ * and every length gets an answer.
+ * Lent: BUCKETMONK_LARGEST_OUTPUT bytes, or more.
+ *
+ * Returns how many bytes the output has and leaves them at the start of out; the bytes beyond are unchanged. Where out is shorter than
+ * BUCKETMONK_LARGEST_OUTPUT, 0 is returned and nothing is written; no output is empty. */
+size_t bucketmonk_output(const uint8_t *text, size_t text_length, uint8_t *out, size_t out_length);
 
 #endif

@@ -1,13 +1,15 @@
 -- Paper 01's marked examples W1 to W12.
 use Prim.Native.Nat.{ℕ}
-use mathlib.Core.Path.{_≡_, refl}
+use mathlib.Core.Path.{_≡_, refl, _∙_, ap}
 use mathlib.Core.List.{List, [], _∷_, map}
-use lib.IntN.{ℤ, pos, negsuc}
+use lib.IntN.{ℤ, pos, negsuc, _+ℤ_, +ℤ-idl}
 use Rattle.types.specs.declared.Verdict.{Verdict}
 use Rattle.types.specs.declared.Verdict.the-variants.{Satisfiable, Contradiction}
-use Rattle.rules.specs.Terms.{Term, variable, auxiliary, deref, Proposition, equality, disequality, block-disequality, Comparison}
+use Rattle.rules.specs.Terms.{Term, variable, auxiliary, deref, Proposition, equality, disequality, block-disequality, Comparison, listed}
+use Rattle.rules.specs.Assignments.{Placement, Holds, Differs, Assignment}
 use Rattle.closure.specs.Facts.{comparison}
 use Rattle.integers.specs.Compare.{eqℤ}
+use Rattle.lists.specs.Items.{Item}
 use Rattle.lists.specs.Search.{find, any, findPair}
 use Rattle.lists.specs.Collect.{collect, cross}
 use Rattle.lists.specs.Tabulate.{tabulate, select}
@@ -44,6 +46,19 @@ b = auxiliary 1
 abbrev c : Term
 c = auxiliary 2
 
+abbrev pub w9 : Example
+w9 =
+    example
+    (a ∷ b ∷ deref (pos 0) 0 ∷ deref (pos 1) 0 ∷ deref (pos 0) 1 ∷ deref (pos 1) 1 ∷ [])
+    (equality 4 (pos 0) 3 ∷ disequality 2 (pos 0) 5 ∷ [])
+    (comparison 0 (pos 1) 1 ∷ comparison 0 (pos 0) 1 ∷ [])
+    Satisfiable
+    (0 ∷ 1 ∷ 2 ∷ 3 ∷ 3 ∷ 5 ∷ [])
+    (pos 0 ∷ pos 0 ∷ pos 0 ∷ pos 0 ∷ pos 0 ∷ pos 0 ∷ [])
+    (0 ∷ 0 ∷ [])
+    (0 ∷ 0 ∷ 2 ∷ 0 ∷ 1 ∷ [])
+    (2 ∷ 0 ∷ [])
+
 -- W1 to W12, in order
 unfoldable pub examples : List Example
 examples =
@@ -73,16 +88,7 @@ examples =
     (1 ∷ 0 ∷ 1 ∷ [])
     (0 ∷ [])
     []
-    ∷ example
-    (a ∷ b ∷ deref (pos 0) 0 ∷ deref (pos 1) 0 ∷ deref (pos 0) 1 ∷ deref (pos 1) 1 ∷ [])
-    (equality 4 (pos 0) 3 ∷ disequality 2 (pos 0) 5 ∷ [])
-    (comparison 0 (pos 1) 1 ∷ comparison 0 (pos 0) 1 ∷ [])
-    Satisfiable
-    (0 ∷ 1 ∷ 2 ∷ 3 ∷ 3 ∷ 5 ∷ [])
-    (pos 0 ∷ pos 0 ∷ pos 0 ∷ pos 0 ∷ pos 0 ∷ pos 0 ∷ [])
-    (0 ∷ 0 ∷ [])
-    (0 ∷ 0 ∷ 2 ∷ 0 ∷ 1 ∷ [])
-    (2 ∷ 0 ∷ [])
+    ∷ w9
     ∷ example
     (a ∷ b ∷ [])
     (equality 0 (negsuc 2147483647) 1 ∷ [])
@@ -121,3 +127,14 @@ unfolding examples outcome satisfiable contradiction answer blame dropBelow kept
     contradictory conflicting holds together clash different differentIn differentBase reads moved apart otherOffset movedTo classesOf
     closure close rounds joinAll unjoined sameAddress derefs join link placed own total facts eqℤ find any findPair collect cross tabulate select
 examples-hold = refl
+
+-- W9 answers "neither" for a against 0 + b, though they differ in every assignment
+pub w9-differs : (P : Placement) → Assignment (w9 .terms) (listed (w9 .terms) (w9 .propositions)) P → Differs P 0 (pos 0) 1
+w9-differs P A h = A .unequal (1, refl) (then (then (inner 2 4 (pos 0) refl refl) (A .respects .equal (0, refl))) (inner 3 5 (pos 1) refl refl))
+  where
+    -- dereferences of a and of b at one offset, if a is b
+    inner : (x y : ℕ) (z : ℤ) → Item (w9 .terms) x (deref z 0) → Item (w9 .terms) y (deref z 1) → Holds P x (pos 0) y
+    inner x y z i j = A .respects .congruent i j (h .same-block) (ap (λ (p : ℤ). z +ℤ p) (h .at-offset ∙ +ℤ-idl (P .position 1)))
+
+    then : {x y w : ℕ} → Holds P x (pos 0) y → Holds P y (pos 0) w → Holds P x (pos 0) w
+    then {x} {y} {w} f g = record { same-block = f .same-block ∙ g .same-block; at-offset = f .at-offset ∙ (+ℤ-idl (P .position y) ∙ g .at-offset) }
