@@ -19,7 +19,7 @@ use Rattle.tables.specs.Limits.{most}
 use Rattle.tables.specs.Records.{termOf, propositionOf}
 use Rattle.tables.specs.Call.{Tables, Memory, room, refusal, termRecord, propositionRecord, questionRecord, orDefault, overwrite, termsOf, propositionsOf, questionsOf, run, solvedBy, returned, left, written}
 use Rattle.tables.specs.Accepted.{Passed, passed, length-terms}
-use Rattle.text.specs.Output.{labelFrames, blameFrames, answerFrames, middle, outcomeFrames}
+use Rattle.text.specs.Output.{labelFrames, blameFrames, middle, outcomeFrames}
 use Rattle.text.specs.OutputSize.{largestOutput, outcome-size}
 use Rattle.writer.specs.Frames.{setFrames}
 use Rattle.solver.specs.Answered.{memoryOf, Answered}
@@ -114,7 +114,7 @@ module _ (T : Tables) (accepted : refusal T fullRoom ≡ none) where
         go Verdict.Satisfiable h = refl
         go Verdict.Contradiction h = cc
 
-    pub contradiction-frames : r ≡ Solved.Contradiction → outcomeFrames (run T) ≡ setFrames Verdict.Contradiction (blameFrames 0 (take (T .propositions) (N .marks))) (take (T .questions) (N .answers))
+    pub contradiction-frames : r ≡ Solved.Contradiction → outcomeFrames (run T) ≡ setFrames Verdict.Contradiction (blameFrames (take (T .propositions) (N .marks))) (take (T .questions) (N .answers))
     contradiction-frames e =
         rw (
           cells-written (run T .marks) (replicate 512 0) (N .marks) (T .propositions) (lengths .marks ∙ length-propositions) marks,

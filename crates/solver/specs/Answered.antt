@@ -10,10 +10,10 @@ use Rattle.types.specs.declared.Refusal.{Refusal}
 use Rattle.types.specs.declared.Solved.{Solved}
 use Rattle.outcome.specs.Outcome.{Outcome, outcome}
 use Rattle.tables.specs.Refusals.{fault}
-use Rattle.tables.specs.Call.{Tables, Memory, room, setOf, refusal, termsOf, propositionsOf, questionsOf, written, run, returned, left}
+use Rattle.tables.specs.Call.{Tables, Memory, room, setOf, refusal, termsOf, propositionsOf, questionsOf, written, run, solvedBy, returned, left}
 use Rattle.tables.specs.Accepted.{Good, passed}
 use Rattle.checks.specs.Limits.{tablesOf}
-use Rattle.solver.specs.Results.{Asked, questionList, Leaves, solvedAs, Solves}
+use Rattle.solver.specs.Results.{Asked, questionList, Leaves, Solves}
 
 abbrev pub memoryOf : List ℕ → List ℤ → List ℕ → List ℕ → List ℕ → Memory
 memoryOf r o m p a = record { representatives = r; offsets = o; marks = m; pairs = p; answers = a }
@@ -26,9 +26,8 @@ pub record Answered (T : Tables) (M N : Memory) (result : Solved) : Type 0 where
 pub answered-refused : (T : Tables) (M : Memory) (r : Refusal) (k : ℕ) → refusal T (room M) ≡ fault r k → Answered T M M (Solved.Refused r k)
 answered-refused T M r k e = record { returns = rw e; leaves = rw e }
 
-pub verdict-returned : (T : Tables) (v : Verdict) → run T .verdict ≡ v → solvedAs v ≡ returned none T
-verdict-returned T Verdict.Satisfiable e = rw e
-verdict-returned T Verdict.Contradiction e = rw e
+pub verdict-returned : (T : Tables) (v : Verdict) → run T .verdict ≡ v → solvedBy v ≡ returned none T
+verdict-returned T v e = ap solvedBy (sym e)
 
 module _
     (n : ℕ)

@@ -24,9 +24,8 @@ use Rattle.closure.specs.Verdict.{contradictory}
 use Rattle.outcome.specs.PairBits.{bitOf, pairBits, pairBytes}
 use Rattle.outcome.specs.Outcome.{Outcome, outcome, satisfiable, contradiction}
 use Rattle.outcome.specs.Demands as outcomes
-use Rattle.tables.specs.Call.{Tables, Memory, room, refusal, termsOf, propositionsOf, questionsOf, written, run, returned, overwrite}
+use Rattle.tables.specs.Call.{Tables, Memory, room, refusal, termsOf, propositionsOf, questionsOf, written, run, solvedBy, returned, overwrite}
 use Rattle.tables.specs.Accepted.{passed, length-terms, accepted-well-formed, accepted-questions}
-use Rattle.solver.specs.Results.{solvedAs}
 use Rattle.solver.specs.Answered.{Answered, verdict-returned}
 use Rattle.solver.specs.Verdict.{roomFor, verdictOf}
 
@@ -60,7 +59,7 @@ module _ (T : Tables) (r : Solved) (is : r ≡ returned none T) where
   abbrev decided : Verdict
   decided = outcome (termsOf T) (propositionsOf T) (questionsOf T) .verdict
 
-  accepted-returns : (v : Verdict) → decided ≡ v → r ≡ solvedAs v
+  accepted-returns : (v : Verdict) → decided ≡ v → r ≡ solvedBy v
   unfolding run
   accepted-returns v e = is ∙ sym (verdict-returned T v e)
 
@@ -91,7 +90,7 @@ module _ (T : Tables) (M N : Memory) (r : Solved) (A : Answered T M N r) (accept
   unfolding run
   run-is = refl
 
-  returned-at : (v : Verdict) → O .verdict ≡ v → r ≡ solvedAs v
+  returned-at : (v : Verdict) → O .verdict ≡ v → r ≡ solvedBy v
   returned-at = accepted-returns T r (rw accepted at (A .returns))
 
   contradiction-iff : r ≡ Solved.Contradiction ↔ (O .verdict ≡ Verdict.Contradiction)

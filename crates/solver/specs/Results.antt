@@ -30,7 +30,7 @@ use Rattle.closure.specs.Differences.{different, different-exact}
 use Rattle.outcome.specs.PairBits.{bitValue, pairBit, pairBits, pairBytes}
 use Rattle.outcome.specs.Blame.{blame}
 use Rattle.outcome.specs.Outcome.{Outcome, answer, satisfiable, contradiction, outcome}
-use Rattle.tables.specs.Call.{Tables, Memory, termsOf, propositionsOf, questionsOf, overwrite}
+use Rattle.tables.specs.Call.{Tables, Memory, termsOf, propositionsOf, questionsOf, overwrite, solvedBy}
 use Rattle.tables.specs.Accepted.{Good, GoodQuestions, length-terms, length-propositions, accepted-well-formed, accepted-questions}
 use Rattle.differences.specs.Base.{sides, Ready}
 use Rattle.differences.specs.Answers.{asking, Answerable, written-tells}
@@ -265,14 +265,9 @@ module _ (T : Tables) (good : Good T) where
 pub square-small : (n : ℕ) → n ≤ 512 → n * n ≤ 262144
 square-small n h = omega (arith, mul-le-mul-right n h)
 
--- what the solver returns for a verdict
-abbrev pub solvedAs : Verdict → Solved
-solvedAs Verdict.Satisfiable = Solved.Satisfiable
-solvedAs Verdict.Contradiction = Solved.Contradiction
-
 -- an accepted call
 pub record Solves (O : Outcome) (result : Solved) (r0 : List ℕ) (o0 : List ℤ) (m0 p0 a0 : List ℕ) (r : List ℕ) (o : List ℤ) (m p a : List ℕ) : Type 0 where
-  pub verdict : result ≡ solvedAs (O .verdict)
+  pub verdict : result ≡ solvedBy (O .verdict)
   pub leaves : Leaves O r0 o0 m0 p0 a0 r o m p a
 
 -- marks that were set before

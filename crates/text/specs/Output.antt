@@ -50,22 +50,25 @@ abbrev pub blameIf : ℕ → ℕ → List ℕ
 blameIf p zero = []
 blameIf p (suc m) = blameFrame p
 
--- a frame for each blamed proposition from number p on
-unfoldable pub blameFrames : ℕ → List ℕ → List ℕ
-blameFrames p [] = []
-blameFrames p (m ∷ ms) = blameIf p m ++ blameFrames (suc p) ms
+-- what f writes for each cell, from number k on
+unfoldable pub cellFrames : (ℕ → ℕ → List ℕ) → ℕ → List ℕ → List ℕ
+cellFrames f k [] = []
+cellFrames f k (c ∷ cells) = f k c ++ cellFrames f (suc k) cells
 
--- a frame for each question from number q on
-unfoldable pub answerFrames : ℕ → List ℕ → List ℕ
-answerFrames q [] = []
-answerFrames q (a ∷ ans) = answerFrame q a ++ answerFrames (suc q) ans
+-- a frame for each blamed proposition
+abbrev pub blameFrames : List ℕ → List ℕ
+blameFrames = cellFrames blameIf 0
+
+-- a frame for each question
+abbrev pub answerFrames : List ℕ → List ℕ
+answerFrames = cellFrames answerFrame 0
 
 abbrev pub middle : Verdict → Outcome → List ℕ
 middle Satisfiable o = labelFrames 0 (o .representatives) (o .offsets)
-middle Contradiction o = blameFrames 0 (o .marks)
+middle Contradiction o = blameFrames (o .marks)
 
 unfoldable pub outcomeFrames : Outcome → List ℕ
-outcomeFrames o = verdictFrame (o .verdict) ++ (middle (o .verdict) o ++ answerFrames 0 (o .answers))
+outcomeFrames o = verdictFrame (o .verdict) ++ (middle (o .verdict) o ++ answerFrames (o .answers))
 
 -- the outcome of the set that the records hold
 unfoldable pub solved : Records → Outcome

@@ -2,6 +2,7 @@
 use Prim.Native.Nat.{ℕ, zero, suc, _+_, _*_, _≤_}
 use mathlib.Core.Path.{_≡_, refl, _∙_}
 use mathlib.Core.List.{List, [], _∷_, _++_, map}
+use native.Mathlib.Nat.{mul-suc}
 use native.Mathlib.Omega.{arith}
 use lib.IntN.{ℤ}
 use lib.ListN.{length, length-append, length-map}
@@ -17,7 +18,7 @@ use Rattle.tables.specs.Refusals.{Fault}
 use Rattle.tables.specs.Call.{orDefault}
 use Rattle.text.specs.Lines.{lf, hexOf, bytes, unsigned}
 use Rattle.text.specs.Reading.{Records, Reading, accepted, refused, reading}
-use Rattle.text.specs.Output.{lineOf, verdictFrame, labelFrame, labelFrames, blameFrame, blameIf, blameFrames, answerFrame, answerFrames, refusalFrame, middle, outcomeFrames, solved, readingFrames, output}
+use Rattle.text.specs.Output.{lineOf, verdictFrame, labelFrame, labelFrames, blameFrame, blameIf, cellFrames, answerFrame, answerFrames, refusalFrame, middle, outcomeFrames, solved, readingFrames, output}
 use Rattle.text.specs.Size.{output-all}
 use Rattle.text.specs.Sound.{Sound, accepted-sound}
 
@@ -51,16 +52,14 @@ labels-size t [] os = omega arith
 labels-size t (r ∷ rs) [] = omega arith
 labels-size t (r ∷ rs) (o ∷ os) = omega (arith, length-append (labelFrame t r o) (labelFrames (suc t) rs os), length-label t r o, labels-size (suc t) rs os)
 
-blame-size : (p : ℕ) (ms : List ℕ) → length (blameFrames p ms) ≤ 7 * length ms
-unfolding blameFrames
-blame-size p [] = omega arith
-blame-size p (zero ∷ ms) = omega (arith, blame-size (suc p) ms)
-blame-size p (suc m ∷ ms) = omega (arith, length-append (blameFrame p) (blameFrames (suc p) ms), length-blame p, blame-size (suc p) ms)
+blame-within : (p m : ℕ) → length (blameIf p m) ≤ 7
+blame-within p zero = omega arith
+blame-within p (suc m) = omega (arith, length-blame p)
 
-answers-size : (q : ℕ) (ans : List ℕ) → length (answerFrames q ans) ≤ 9 * length ans
-unfolding answerFrames
-answers-size q [] = omega arith
-answers-size q (a ∷ ans) = omega (arith, length-append (answerFrame q a) (answerFrames (suc q) ans), length-answer q a, answers-size (suc q) ans)
+cells-size : (f : ℕ → ℕ → List ℕ) (n : ℕ) → ((k c : ℕ) → length (f k c) ≤ n) → (k : ℕ) (cells : List ℕ) → length (cellFrames f k cells) ≤ n * length cells
+unfolding cellFrames
+cells-size f n h k [] = omega arith
+cells-size f n h k (c ∷ cells) = omega (arith, length-append (f k c) (cellFrames f (suc k) cells), h k c, cells-size f n h (suc k) cells, mul-suc n (length cells))
 
 module _ (ts : List Term) (ps : List Proposition) (qs : List Comparison) (few-terms : length ts ≤ most) (few-propositions : length ps ≤ most) (few-questions : length qs ≤ most) where
   pub outcome-size : length (outcomeFrames (outcome ts ps qs)) ≤ largestOutput
@@ -69,17 +68,17 @@ module _ (ts : List Term) (ps : List Proposition) (qs : List Comparison) (few-te
     where
       middle-size : (v : Verdict) (o : Outcome) → Lengths ts ps qs o → length (middle v o) ≤ most * 27
       middle-size Satisfiable o l = omega (arith, labels-size 0 (o .representatives) (o .offsets), l .representatives)
-      middle-size Contradiction o l = omega (arith, blame-size 0 (o .marks), l .marks)
+      middle-size Contradiction o l = omega (arith, cells-size blameIf 7 blame-within 0 (o .marks), l .marks)
 
-      go : (o : Outcome) → Lengths ts ps qs o → length (verdictFrame (o .verdict) ++ (middle (o .verdict) o ++ answerFrames 0 (o .answers))) ≤ largestOutput
+      go : (o : Outcome) → Lengths ts ps qs o → length (verdictFrame (o .verdict) ++ (middle (o .verdict) o ++ answerFrames (o .answers))) ≤ largestOutput
       go o l =
           omega (
             arith,
-            length-append (verdictFrame (o .verdict)) (middle (o .verdict) o ++ answerFrames 0 (o .answers)),
-            length-append (middle (o .verdict) o) (answerFrames 0 (o .answers)),
+            length-append (verdictFrame (o .verdict)) (middle (o .verdict) o ++ answerFrames (o .answers)),
+            length-append (middle (o .verdict) o) (answerFrames (o .answers)),
             length-line (0xA0 ∷ verdictNumber (o .verdict) ∷ []),
             middle-size (o .verdict) o l,
-            answers-size 0 (o .answers),
+            cells-size answerFrame 9 (λ q a. omega (arith, length-answer q a)) 0 (o .answers),
             l .answers,
           )
 

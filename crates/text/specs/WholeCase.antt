@@ -18,7 +18,7 @@ use Rattle.tables.specs.Refusals.{termNameFault, propositionNameFault, question
 use Rattle.text.specs.Lines.{linesOf, digit, bytesOf, big, signed, unsigned, digitOf, hexOf, bytes}
 use Rattle.text.specs.Frames.{layouts, frameBy, frameOf}
 use Rattle.text.specs.Reading.{frameFault, withFrame, step, readLines, reading}
-use Rattle.text.specs.Output.{labelFrames, answerFrames, outcomeFrames, solved, output}
+use Rattle.text.specs.Output.{labelFrames, cellFrames, outcomeFrames, solved, output}
 
 unfoldable pub input : List ℕ
 input =
@@ -65,7 +65,7 @@ written =
     []
 
 pub whole-case : output input ≡ written
-unfolding input written output outcomeFrames labelFrames answerFrames solved reading readLines step frameFault withFrame frameOf frameBy layouts
+unfolding input written output outcomeFrames labelFrames cellFrames solved reading readLines step frameFault withFrame frameOf frameBy layouts
     linesOf digit bytesOf big signed unsigned digitOf hexOf bytes
     termNameFault propositionNameFault questionNameFault offsetInRange atomRecord termOf propositionOf sameAtom
     outcome satisfiable answer pairBits pairBit number

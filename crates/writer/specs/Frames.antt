@@ -1,6 +1,7 @@
 -- Laws of frames as lines, and of the frames from a number on.
 use Prim.Native.Nat.{ℕ, zero, suc, _+_, _-_, _*_, _/_, _%_, _^_, _<_, _≤_}
 use mathlib.Core.Path.{_≡_, refl, sym, _∙_, ap}
+use mathlib.Core.Bool.{Bool, true, false}
 use mathlib.Core.List.{List, [], _∷_, _++_}
 use native.Mathlib.Omega.{arith}
 use native.Mathlib.Nat.{pow-succ'}
@@ -12,7 +13,7 @@ use lib.Seq.{drop-cons, getD-take, length-take-le}
 use Rattle.types.specs.declared.Verdict.{Verdict}
 use Rattle.text.specs.Lines.{lf, digitOf, hexOf, bytes}
 use Rattle.text.specs.OutputSize.{length-line}
-use Rattle.text.specs.Output.{lineOf, verdictFrame, labelFrame, labelFrames, blameFrame, blameIf, blameFrames, answerFrame, answerFrames}
+use Rattle.text.specs.Output.{lineOf, verdictFrame, labelFrame, labelFrames, blameFrame, blameIf, cellFrames, answerFrame, answerFrames}
 
 -- the line of a frame's bytes from number k on, with byte k's digits taken off
 pub line-next : (bs : List ℕ) (k : ℕ)
@@ -45,22 +46,19 @@ module _ (rs : List ℕ) (os : List ℤ) (n k : ℕ) (reps : n ≤ length rs) (o
   unfolding labelFrames
   labels-end h = rw (take-past rs n k h reps)
 
-module _ (ms : List ℕ) (n k : ℕ) (enough : n ≤ length ms) where
-  pub blame-next : k < n → blameFrames k (drop k (take n ms)) ≡ blameIf k (getD ms k 0) ++ blameFrames (k + 1) (drop (k + 1) (take n ms))
-  unfolding blameFrames
-  blame-next h = rw (take-item ms n k 0 h enough, add-one k)
+module _ (f : ℕ → ℕ → List ℕ) (cells : List ℕ) (n k : ℕ) (enough : n ≤ length cells) where
+  pub cells-next : k < n → cellFrames f k (drop k (take n cells)) ≡ f k (getD cells k 0) ++ cellFrames f (k + 1) (drop (k + 1) (take n cells))
+  unfolding cellFrames
+  cells-next h = rw (take-item cells n k 0 h enough, add-one k)
 
-  pub blame-end : n ≤ k → blameFrames k (drop k (take n ms)) ≡ []
-  unfolding blameFrames
-  blame-end h = rw (take-past ms n k h enough)
+  pub cells-end : n ≤ k → cellFrames f k (drop k (take n cells)) ≡ []
+  unfolding cellFrames
+  cells-end h = rw (take-past cells n k h enough)
 
-  pub answers-next : k < n → answerFrames k (drop k (take n ms)) ≡ answerFrame k (getD ms k 0) ++ answerFrames (k + 1) (drop (k + 1) (take n ms))
-  unfolding answerFrames
-  answers-next h = rw (take-item ms n k 0 h enough, add-one k)
-
-  pub answers-end : n ≤ k → answerFrames k (drop k (take n ms)) ≡ []
-  unfolding answerFrames
-  answers-end h = rw (take-past ms n k h enough)
+-- what is written for a mark, or for an answer
+abbrev pub cellFrame : Bool → ℕ → ℕ → List ℕ
+cellFrame true = blameIf
+cellFrame false = answerFrame
 
 pub blame-marked : (p m : ℕ) → (m ≡ 0 → ⊥) → blameIf p m ≡ blameFrame p
 blame-marked p zero n = absurd (n refl)
@@ -78,4 +76,4 @@ blame-unmarked p m e = rw e
 
 -- the frames of a set: its verdict, what the verdict asks for, and the answers
 abbrev pub setFrames : Verdict → List ℕ → List ℕ → List ℕ
-setFrames v middle answers = verdictFrame v ++ (middle ++ answerFrames 0 answers)
+setFrames v middle answers = verdictFrame v ++ (middle ++ answerFrames answers)

@@ -7,8 +7,8 @@ ghost use Prim.Native.Nat.{_+_, _/_, _%_, _^_, _≤_, _<_};
 ghost use lib.ListN.{length, take};
 ghost use Rattle.types.specs.declared.Verdict.the-variants.{Satisfiable, Contradiction};
 ghost use Rattle.text.specs.Lines.{digitOf, unsigned};
-ghost use Rattle.text.specs.Output.{lineOf, verdictFrame, labelFrame, labelFrames, blameIf, blameFrames, answerFrame, answerFrames, refusalFrame};
-ghost use Rattle.writer.specs.Frames.{setFrames};
+ghost use Rattle.text.specs.Output.{lineOf, verdictFrame, labelFrame, labelFrames, blameIf, blameFrames, answerFrame, cellFrames, refusalFrame};
+ghost use Rattle.writer.specs.Frames.{cellFrame, setFrames};
 ghost use Rattle.writer.specs.Appended.{Appended};
 
 // The digit of a value below 16.
@@ -128,19 +128,6 @@ fn put_blamed(out: &mut [u8], at: usize, proposition: usize, mark: u8) -> usize
     put_line(out, at, &frame)
 }
 
-// Those of m propositions that are marked.
-fn put_blame(out: &mut [u8], at: usize, m: usize, marks: &[u8]) -> usize
-    requires { ⌜ m ≤ length (now marks) ⌝ }
-    requires { ⌜ at + length (blameFrames 0 (take m (now marks))) ≤ length (now out) ⌝ }
-    ensures { λ r. ⌜ Appended (now (out .entry)) at (blameFrames 0 (take m (now (marks .entry)))) (now (out .exit)) r ⌝ }
-{
-    let mut next = at;
-    for p in 0..m {
-        next = put_blamed(out, next, p, marks[p]);
-    }
-    next
-}
-
 // The answer to a question.
 fn put_answer(out: &mut [u8], at: usize, question: usize, answer: u8) -> usize
     requires { ⌜ at + length (answerFrame question answer) ≤ length (now out) ⌝ }
@@ -151,15 +138,27 @@ fn put_answer(out: &mut [u8], at: usize, question: usize, answer: u8) -> usize
     put_line(out, at, &frame)
 }
 
-// The answers to q questions.
-fn put_answers(out: &mut [u8], at: usize, q: usize, answers: &[u8]) -> usize
-    requires { ⌜ q ≤ length (now answers) ⌝ }
-    requires { ⌜ at + length (answerFrames 0 (take q (now answers))) ≤ length (now out) ⌝ }
-    ensures { λ r. ⌜ Appended (now (out .entry)) at (answerFrames 0 (take q (now (answers .entry)))) (now (out .exit)) r ⌝ }
+// A mark, or the answer to a question.
+fn put_cell(out: &mut [u8], at: usize, blamed: bool, number: usize, cell: u8) -> usize
+    requires { ⌜ at + length (cellFrame blamed number cell) ≤ length (now out) ⌝ }
+    ensures { λ r. ⌜ Appended (now (out .entry)) at (cellFrame blamed number cell) (now (out .exit)) r ⌝ }
+{
+    if blamed {
+        put_blamed(out, at, number, cell)
+    } else {
+        put_answer(out, at, number, cell)
+    }
+}
+
+// The first n marks, or answers.
+fn put_cells(out: &mut [u8], at: usize, blamed: bool, n: usize, cells: &[u8]) -> usize
+    requires { ⌜ n ≤ length (now cells) ⌝ }
+    requires { ⌜ at + length (cellFrames (cellFrame blamed) 0 (take n (now cells))) ≤ length (now out) ⌝ }
+    ensures { λ r. ⌜ Appended (now (out .entry)) at (cellFrames (cellFrame blamed) 0 (take n (now (cells .entry)))) (now (out .exit)) r ⌝ }
 {
     let mut next = at;
-    for k in 0..q {
-        next = put_answer(out, next, k, answers[k]);
+    for k in 0..n {
+        next = put_cell(out, next, blamed, k, cells[k]);
     }
     next
 }
@@ -189,7 +188,7 @@ pub fn put_satisfiable_set(
 {
     let labels = put_satisfiable(out, 0);
     let questions = put_labels(out, labels, n, representatives, offsets);
-    put_answers(out, questions, q, answers)
+    put_cells(out, questions, false, q, answers)
 }
 
 // The frames of a contradictory set: its verdict, those of m propositions that are marked, and q questions.
@@ -201,10 +200,10 @@ pub fn put_contradictory_set(
     answers: &[u8],
 ) -> usize
     requires { ⌜ (m ≤ length (now marks)) × (q ≤ length (now answers)) ⌝ }
-    requires { ⌜ length (setFrames Contradiction (blameFrames 0 (take m (now marks))) (take q (now answers))) ≤ length (now out) ⌝ }
-    ensures { λ r. ⌜ Appended (now (out .entry)) 0 (setFrames Contradiction (blameFrames 0 (take m (now (marks .entry)))) (take q (now (answers .entry)))) (now (out .exit)) r ⌝ }
+    requires { ⌜ length (setFrames Contradiction (blameFrames (take m (now marks))) (take q (now answers))) ≤ length (now out) ⌝ }
+    ensures { λ r. ⌜ Appended (now (out .entry)) 0 (setFrames Contradiction (blameFrames (take m (now (marks .entry)))) (take q (now (answers .entry)))) (now (out .exit)) r ⌝ }
 {
     let blame = put_contradiction(out, 0);
-    let questions = put_blame(out, blame, m, marks);
-    put_answers(out, questions, q, answers)
+    let questions = put_cells(out, blame, true, m, marks);
+    put_cells(out, questions, false, q, answers)
 }
