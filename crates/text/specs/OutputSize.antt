@@ -1,5 +1,5 @@
--- How long the output is at most.
-use Prim.Native.Nat.{ℕ, zero, suc, _+_, _*_, _≤_}
+-- How long the output is at most, and that it is not empty.
+use Prim.Native.Nat.{ℕ, zero, suc, _+_, _*_, _<_, _≤_}
 use mathlib.Core.Path.{_≡_, refl, _∙_}
 use mathlib.Core.List.{List, [], _∷_, _++_, map}
 use native.Mathlib.Nat.{mul-suc}
@@ -107,3 +107,18 @@ reading-size text = go (reading text) refl
 
 pub output-size : (text : List ℕ) → length (output text) ≤ largestOutput
 output-size text = rw (output-all text) (reading-size text)
+
+reading-some : (o : Reading) → 0 < length (readingFrames o)
+unfolding outcomeFrames
+reading-some (accepted R) =
+    let o = solved R in
+    omega (
+      arith,
+      length-append (verdictFrame (o .verdict)) (middle (o .verdict) o ++ answerFrames 0 (o .answers)),
+      length-line (0xA0 ∷ verdictNumber (o .verdict) ∷ []),
+    )
+reading-some (refused f) = omega (arith, length-line (0xA4 ∷ refusalNumber (f .refusal) ∷ bytes 2 (f .place)))
+
+-- no output is empty
+pub output-some : (text : List ℕ) → 0 < length (output text)
+output-some text = rw (output-all text) (reading-some (reading text))
