@@ -17,11 +17,11 @@ abbrev pub chainTerms : ℕ → List Term
 chainTerms n = tabulate auxiliary 0 (suc n)
 
 -- term k = −W + term (k + 1)
-abbrev pub link : ℕ → ℕ → Proposition
-link W k = equality k (negℤ (pos W)) (suc k)
+abbrev pub chainLink : ℕ → ℕ → Proposition
+chainLink W k = equality k (negℤ (pos W)) (suc k)
 
 abbrev pub chainPropositions : ℕ → ℕ → List Proposition
-chainPropositions n W = tabulate (link W) 0 n
+chainPropositions n W = tabulate (chainLink W) 0 n
 
 module _ {A : Type 0} (f : ℕ → A) where
   value-at : (n k : ℕ) → k < n → Item (tabulate f 0 n) k (f k)
@@ -41,7 +41,7 @@ module _ (n W : ℕ) where
   part-distance zero h = let e : 0 * W ≡ 0 = omega arith in rw e (E1 {t = 0} (omega (arith, length-tabulate auxiliary 0 (suc n))))
   part-distance (suc k) h =
       let e : negℤ (pos (k * W)) +ℤ negℤ (pos W) ≡ negℤ (pos (suc k * W)) = omega (linear, value (⊝ # (k * W) ⊕ ⊝ # W), value (⊝ # (suc k * W))) in
-      rw e at (E3 (part-distance k (omega arith)) (E0 (k, value-at (link W) n k (omega arith))))
+      rw e at (E3 (part-distance k (omega arith)) (E0 (k, value-at (chainLink W) n k (omega arith))))
 
   -- the ends of the chain are n × W apart
   pub chain-distance : Equal (chainTerms n) (listed (chainTerms n) (chainPropositions n W)) 0 (negℤ (pos (n * W))) n
@@ -59,7 +59,7 @@ module _ (n W : ℕ) where
 
   link-holds : (k : ℕ) {t1 t2 : ℕ} {z : ℤ} → Item (chainPropositions n W) k (equality t1 z t2) → Holds along t1 z t2
   link-holds k {t1} {t2} {z} i =
-      let e = at-value (link W) n k i in
+      let e = at-value (chainLink W) n k i in
       let e1 : t1 ≡ k = cc in
       let e2 : t2 ≡ suc k = cc in
       let ez : z ≡ negℤ (pos W) = cc in
@@ -74,9 +74,9 @@ module _ (n W : ℕ) where
         equal = λ i. link-holds (i .0) (i .1);
         congruent = λ {t1} {t2} {d1} i j b e. absurd (no-deref d1 i);
       };
-      unequal = λ i. let e = at-value (link W) n (i .0) (i .1) in let z : _≡_ {A = ℕ} 0 1 = cc in absurd (omega arith);
+      unequal = λ i. let e = at-value (chainLink W) n (i .0) (i .1) in let z : _≡_ {A = ℕ} 0 1 = cc in absurd (omega arith);
       apart = λ {t1} {t2} g. ⊎-elim
-          (λ (i : In (block-disequality t1 t2) (chainPropositions n W)). let e = at-value (link W) n (i .0) (i .1) in let z : _≡_ {A = ℕ} 0 1 = cc in absurd (omega arith))
+          (λ (i : In (block-disequality t1 t2) (chainPropositions n W)). let e = at-value (chainLink W) n (i .0) (i .1) in let z : _≡_ {A = ℕ} 0 1 = cc in absurd (omega arith))
           (λ (v : DistinctVariables (chainTerms n) t1 t2). absurd (no-variable t1 (v .2)))
           g;
     },
