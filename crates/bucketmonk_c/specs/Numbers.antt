@@ -2,15 +2,19 @@
 use Prim.Native.Nat.{ℕ, _+_, _*_, _%_, _^_, _≤_}
 use mathlib.Core.Path.{_≡_}
 use mathlib.Core.List.{List}
+use mathlib.Core.Option.{some}
 use native.Mathlib.Omega.{arith}
 use Rattle.types.specs.declared.Refusal.{Refusal}
 use Rattle.types.specs.declared.Solved.{Solved}
 use Rattle.types.specs.Numbers.{refusalNumber}
+use Rattle.tables.specs.Refusals.{Fault}
+use Rattle.tables.specs.Call.{Tables, Room, refusal}
+use Rattle.tables.specs.Places.{refusal-place}
 use Rattle.reader.specs.declared.ReadResult.{ReadResult}
 use Rattle.reader.specs.Columns.{Columns}
 use Rattle.reader.specs.Answers.{readInto, answer, left}
 
--- 0 satisfiable, 1 contradiction; a refusal has its number in the higher and its place in the lower 16 bits. No place is above 512.
+-- 0 satisfiable, 1 contradiction; a refusal has its number in the higher and its place in the lower 16 bits (`place-whole`).
 abbrev pub solvedNumber : Solved → ℕ
 solvedNumber Solved.Satisfiable = 0
 solvedNumber Solved.Contradiction = 1
@@ -38,3 +42,7 @@ refusal-small Refusal.QuestionTermNotListed = omega arith
 refusal-small Refusal.TooShort = omega arith
 refusal-small Refusal.Malformed = omega arith
 refusal-small Refusal.GroupOrder = omega arith
+
+-- the place of a refusal is told whole
+pub place-whole : (T : Tables) (R : Room) (f : Fault) → refusal T R ≡ some f → f .place % 2 ^ 16 ≡ f .place
+place-whole T R f e = omega (arith, refusal-place T R f e)

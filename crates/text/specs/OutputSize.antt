@@ -114,7 +114,7 @@ reading-some (accepted R) =
     let o = solved R in
     omega (
       arith,
-      length-append (verdictFrame (o .verdict)) (middle (o .verdict) o ++ answerFrames 0 (o .answers)),
+      length-append (verdictFrame (o .verdict)) (middle (o .verdict) o ++ answerFrames (o .answers)),
       length-line (0xA0 ∷ verdictNumber (o .verdict) ∷ []),
     )
 reading-some (refused f) = omega (arith, length-line (0xA4 ∷ refusalNumber (f .refusal) ∷ bytes 2 (f .place)))
