@@ -17,7 +17,7 @@ use Rattle.reader.specs.declared.ReadResult.{ReadResult}
 use Rattle.reader.specs.declared.ReadResult.the-variants.{Accepted, Refused}
 use Rattle.reader.specs.Columns as reader
 use Rattle.reader.specs.Columns.{Columns, columns}
-use Rattle.reader.specs.Answers.{enough, termRoom, propositionRoom, questionRoom, readInto, answer, left, ReadAs, enough-room}
+use Rattle.reader.specs.Answers.{enough, termRoom, propositionRoom, questionRoom, readInto, answer, left, ReadAs}
 use Rattle.reader.specs.Tables.{tablesOf, run-solved}
 use Rattle.reader.specs.Passing.{accepted-passes}
 use Rattle.checks.specs.Limits as checks
@@ -90,7 +90,7 @@ module _ (text : List ℕ) (r : ReadResult) (D : Columns) (a : ReadAs text zeroC
     pub accepted-refusal : refusal (tablesIn n m q D) fullRoom ≡ none
     accepted-refusal =
         rw (held .tables)
-        (accepted-passes text (held .records) zeroColumns fullRoom (held .text-is) (enough-room zeroColumns zero-enough) (omega arith) (omega arith) (omega arith) (omega arith)
+        (accepted-passes text (held .records) zeroColumns fullRoom (held .text-is) (omega arith) (omega arith) (omega arith) (omega arith)
         (omega arith))
 
     pub accepted-frames : readingFrames (reading text) ≡ outcomeFrames (run (tablesIn n m q D))

@@ -16,7 +16,7 @@ use Rattle.tables.specs.Call.{Room as Lent, overwrite, refusal}
 use Rattle.tables.specs.Accepted.{Good, GoodQuestions, not-refused}
 use Rattle.text.specs.Reading.{Records, accepted, reading}
 use Rattle.text.specs.Sound.{Sound, accepted-sound}
-use Rattle.reader.specs.Columns.{Columns, Room, written}
+use Rattle.reader.specs.Columns.{Columns, written}
 use Rattle.reader.specs.Tables.{tablesOf, term-held, proposition-held, question-held, front-held}
 
 pairBytes-grows : (n m : ℕ) → n ≤ m → pairBytes n ≤ pairBytes m
@@ -66,7 +66,6 @@ module _ (R : Records) (C : Columns) (s : Sound R) where
 
 pub accepted-passes : (text : List ℕ) (R : Records) (C : Columns) (M : Lent)
     → reading text ≡ accepted R
-    → Room C
     → most ≤ M .representatives
     → most ≤ M .offsets
     → most ≤ M .marks
@@ -74,7 +73,7 @@ pub accepted-passes : (text : List ℕ) (R : Records) (C : Columns) (M : Lent)
     → most ≤ M .answers
     → refusal (tablesOf R C) M ≡ none
 unfolding tablesOf
-accepted-passes text R C M e room representatives offsets marks pairs answers =
+accepted-passes text R C M e representatives offsets marks pairs answers =
     let s = accepted-sound text R e in
     not-refused (tablesOf R C) M (record {
       good = good R C s;
