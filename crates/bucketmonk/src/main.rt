@@ -1,5 +1,7 @@
 // The program: a text on standard input, frames on standard output. What is written for a text is proved of `output::write_output`;
 // here are the read and the write around it.
+use output::JUDGED;
+use output::LARGEST;
 use output::write_output;
 ghost use lib.ListN.{length};
 ghost use Rattle.bucketmonk.specs.Input.{Within};
@@ -34,7 +36,7 @@ fn read_input(text: &mut [u8]) -> Input
 
 // Writes what a text asks for to standard output.
 fn answer(text: &[u8]) {
-    let mut out = [0u8; 18437];
+    let mut out = [0u8; LARGEST];
     let n = write_output(text, &mut out);
     if !io::write_all(libc::STDOUT_FILENO, &out[..n]) {
         os::fail(&[b's', b't', b'd', b'o', b'u', b't']);
@@ -42,7 +44,7 @@ fn answer(text: &[u8]) {
 }
 
 fn main() {
-    let mut text = [0u8; 32768];
+    let mut text = [0u8; JUDGED];
     match read_input(&mut text) {
         Input::Bytes(n) => answer(&text[..n]),
         Input::Failed => os::fail(&[b's', b't', b'd', b'i', b'n']),

@@ -1,4 +1,5 @@
 // What the program writes for a text: the reader, the solver and the writer one after another.
+use reader::MOST;
 use reader::ReadResult;
 use reader::read;
 use solver::solve;
@@ -24,6 +25,9 @@ pub const JUDGED: usize = 32768;
 // The bytes of the largest output.
 pub const LARGEST: usize = 18437;
 
+// The bytes that hold the pair bits of the most terms.
+const PAIR_BYTES: usize = 32768;
+
 // Solves the set that accepted tables hold and writes its frames.
 fn answer_set(
     n: usize,
@@ -45,11 +49,11 @@ fn answer_set(
     requires { ⌜ largestOutput ≤ length (now out) ⌝ }
     ensures { λ r. ⌜ Appended (now (out .entry)) 0 (outcomeFrames (run (tablesOf n (now (kinds .entry)) (now (numbers .entry)) (now (zs .entry)) m (now (pkinds .entry)) (now (lefts .entry)) (now (pzs .entry)) (now (rights .entry)) q (now (qlefts .entry)) (now (qzs .entry)) (now (qrights .entry))))) (now (out .exit)) r ⌝ }
 {
-    let mut representatives = [0u32; 512];
-    let mut offsets = [0i64; 512];
-    let mut marks = [0u8; 512];
-    let mut pairs = [0u8; 32768];
-    let mut answers = [0u8; 512];
+    let mut representatives = [0u32; MOST];
+    let mut offsets = [0i64; MOST];
+    let mut marks = [0u8; MOST];
+    let mut pairs = [0u8; PAIR_BYTES];
+    let mut answers = [0u8; MOST];
     let solved = solve(
         n,
         kinds,
@@ -85,16 +89,16 @@ fn answer_text(text: &[u8], out: &mut [u8]) -> usize
     requires { ⌜ largestOutput ≤ length (now out) ⌝ }
     ensures { λ r. ⌜ Appended (now (out .entry)) 0 (readingFrames (reading (now (text .entry)))) (now (out .exit)) r ⌝ }
 {
-    let mut kinds = [0u8; 512];
-    let mut numbers = [0u32; 512];
-    let mut zs = [0i32; 512];
-    let mut pkinds = [0u8; 512];
-    let mut lefts = [0u32; 512];
-    let mut pzs = [0i32; 512];
-    let mut rights = [0u32; 512];
-    let mut qlefts = [0u32; 512];
-    let mut qzs = [0i32; 512];
-    let mut qrights = [0u32; 512];
+    let mut kinds = [0u8; MOST];
+    let mut numbers = [0u32; MOST];
+    let mut zs = [0i32; MOST];
+    let mut pkinds = [0u8; MOST];
+    let mut lefts = [0u32; MOST];
+    let mut pzs = [0i32; MOST];
+    let mut rights = [0u32; MOST];
+    let mut qlefts = [0u32; MOST];
+    let mut qzs = [0i32; MOST];
+    let mut qrights = [0u32; MOST];
     let got = read(
         text,
         &mut kinds,
