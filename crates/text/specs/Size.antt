@@ -1,4 +1,4 @@
--- An accepted text is short, so the bytes that are judged decide what the program writes.
+-- An accepted text is short, so the bytes that are judged decide what the program writes; and no place of a refusal is large.
 use Prim.Native.Nat.{ℕ, zero, suc, _+_, _*_, _-_, _<_, _≤_}
 use mathlib.Core.Path.{_≡_, refl, ap, sym, _∙_}
 use mathlib.Core.Bool.{Bool, true, false}
@@ -14,7 +14,8 @@ use Rattle.tables.specs.Limits.{most}
 use Rattle.text.specs.Lines.{Line, lf, bytesOf, before, linesOf}
 use Rattle.text.specs.Frames.{Frame, term, proposition, question, frameOf, frameOfBytes}
 use Rattle.text.specs.FrameLaws.{frameBytes, characters-size, line-framed, line-long}
-use Rattle.text.specs.Reading.{Records, nothing, accepted, withFrame, Step, refuse, go-on, stepFrame, step, after, readLines, reading}
+use Rattle.tables.specs.Refusals.{Fault}
+use Rattle.text.specs.Reading.{Records, nothing, accepted, refused, withFrame, Step, refuse, go-on, stepFrame, step, after, readLines, reading}
 use Rattle.text.specs.Laws.{step-frame, Admitted, frame-admitted, step-unended}
 use Rattle.text.specs.Output.{judged, readingFrames, output}
 
@@ -68,6 +69,33 @@ lines-size k R S (l ∷ ls) e = go (step R l) refl (λ T g. lines-size (suc k) T
 pub accepted-size : (text : List ℕ) (R : Records) → reading text ≡ accepted R → length text ≤ largestText
 unfolding roomLeft reading
 accepted-size text R e = omega (arith, text-size text, lines-size 0 nothing R (linesOf text) e)
+
+-- the records for which there is still room
+unfoldable recordsLeft : Records → ℕ
+recordsLeft R = (most - length (R .terms)) + (most - length (R .propositions)) + (most - length (R .questions))
+
+frame-record : (R : Records) (f : Frame) → Admitted R f → recordsLeft (withFrame R f) + 1 ≤ recordsLeft R
+unfolding recordsLeft withFrame
+frame-record R (term r) a = omega (arith, a .2, length-append (R .terms) (r ∷ []))
+frame-record R (proposition p) a = omega (arith, a .0, length-append (R .propositions) (p ∷ []))
+frame-record R (question q) a = omega (arith, a .0, length-append (R .questions) (q ∷ []))
+
+lines-place : (k : ℕ) (R : Records) (ls : List Line) (f : Fault) → readLines k R ls ≡ refused f → f .place ≤ k + recordsLeft R
+unfolding readLines
+lines-place k R [] f e = let z : _≡_ {A = ℕ} 0 1 = cc in absurd (omega arith)
+lines-place k R (l ∷ ls) f e = go (step R l) refl (λ S g. lines-place (suc k) S ls f g) e
+  where
+    go : (s : Step) → step R l ≡ s → ((S : Records) → readLines (suc k) S ls ≡ refused f → f .place ≤ suc k + recordsLeft S) → after k s (λ S. readLines (suc k) S ls) ≡ refused f → f .place ≤ k + recordsLeft R
+    go (refuse r) t ih g = let is : record { refusal = r; place = k } ≡ f = cc in let p = ap (λ (x : Fault). x .place) is in omega arith
+    go (go-on S) t ih g =
+        let a = step-frame R S l t in
+        let c = frame-record R (a .0) (frame-admitted R (a .0) (a .2)) in
+        omega (arith, ih S g, rw (← (a .3)) at c)
+
+-- every line before the refused one gave a record, so two bytes hold its number
+pub refused-place : (text : List ℕ) (f : Fault) → reading text ≡ refused f → f .place ≤ 3 * most
+unfolding recordsLeft reading
+refused-place text f e = omega (arith, lines-place 0 nothing (linesOf text) f e)
 
 -- the lines of the first n bytes of a text, where the lines after the first have become `rest`
 abbrev cutFirst : ℕ → Line → List Line → List Line
