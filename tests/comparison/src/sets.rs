@@ -257,6 +257,22 @@ pub fn tied_chains(size: usize) -> Set {
     set
 }
 
+/// A contradictory cycle of 100 atoms after two chains: the cycle ends a verdict early, and each set without one of its equalities does
+/// not.
+pub fn cycle_beside_chains(size: usize) -> Set {
+    let atoms = 100;
+    let mut set = chains(size - atoms);
+    let first = set.n;
+    for k in 0..atoms {
+        set.term(2, 2 + k, 0);
+    }
+    for k in 1..atoms {
+        set.proposition(0x11, first + k - 1, 4, first + k);
+    }
+    set.proposition(0x11, first, 0, first + atoms - 1);
+    set
+}
+
 /// Classes of four terms, with disequalities between them.
 pub fn classes(r: &mut Numbers, size: usize) -> Set {
     let mut set = Set::default();

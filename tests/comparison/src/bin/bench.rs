@@ -105,6 +105,7 @@ fn main() {
     let mut cycle = sets::one_class(512);
     cycle.proposition(0x11, 0, 0, 511);
     blame("blame of all", &cycle);
+    blame("beside chains", &sets::cycle_beside_chains(512));
     // 512 lines of 15 bytes and 1,024 of 19 are 27,136 bytes. Term 0 has no earlier term to read from, so the longest accepted text has
     // an atom of 7 bytes there: 27,128.
     reading("longest text", &sets::long_lines(&mut Numbers(7), 512, false));
