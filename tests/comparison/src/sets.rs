@@ -92,24 +92,30 @@ impl Set {
         }
     }
 
-    /// The set as a text.
-    pub fn text(&self) -> Vec<u8> {
-        let mut lines = String::new();
+    /// The lines of the set, each with its LF.
+    pub fn lines(&self) -> Vec<Vec<u8>> {
+        let mut lines = Vec::new();
         for k in 0..self.n {
-            let (kind, number) = (self.term_kind[k], self.term_number[k]);
-            let offset = if kind == 3 { format!("{:08X}", self.term_offset[k]) } else { String::new() };
-            lines += &format!("{kind:02X}{number:04X}{offset}\n");
+            let (kind, number, z) = (self.term_kind[k], self.term_number[k], self.term_offset[k]);
+            lines.push(if kind == 3 { format!("03{number:04X}{z:08X}\n") } else { format!("{kind:02X}{number:04X}\n") });
         }
         for k in 0..self.m {
-            let (kind, left, right) = (self.proposition_kind[k], self.proposition_left[k], self.proposition_right[k]);
-            let offset = if kind == 0x13 { String::new() } else { format!("{:08X}", self.proposition_offset[k]) };
-            lines += &format!("{kind:02X}{left:04X}{offset}{right:04X}\n");
+            let (left, z, right) = (self.proposition_left[k], self.proposition_offset[k], self.proposition_right[k]);
+            lines.push(match self.proposition_kind[k] {
+                0x13 => format!("13{left:04X}{right:04X}\n"),
+                kind => format!("{kind:02X}{left:04X}{z:08X}{right:04X}\n"),
+            });
         }
         for k in 0..self.q {
-            let (left, offset, right) = (self.question_left[k], self.question_offset[k], self.question_right[k]);
-            lines += &format!("21{left:04X}{offset:08X}{right:04X}\n");
+            let (left, z, right) = (self.question_left[k], self.question_offset[k], self.question_right[k]);
+            lines.push(format!("21{left:04X}{z:08X}{right:04X}\n"));
         }
-        lines.into_bytes()
+        lines.into_iter().map(String::into_bytes).collect()
+    }
+
+    /// The set as a text.
+    pub fn text(&self) -> Vec<u8> {
+        self.lines().concat()
     }
 
     /// The cells that each lent array needs.

@@ -16,27 +16,6 @@ fn refused(bytes: Vec<u8>, number: u8, place: usize) -> Text {
     Text { bytes, wanted: Some(format!("A4{number:02X}{place:04X}\n").into_bytes()) }
 }
 
-/// The lines of a set, each with its LF.
-pub fn lines(set: &Set) -> Vec<Vec<u8>> {
-    let mut lines = Vec::new();
-    for k in 0..set.n {
-        let (kind, number, z) = (set.term_kind[k], set.term_number[k], set.term_offset[k]);
-        lines.push(if kind == 3 { format!("03{number:04X}{z:08X}\n") } else { format!("{kind:02X}{number:04X}\n") });
-    }
-    for k in 0..set.m {
-        let (left, z, right) = (set.proposition_left[k], set.proposition_offset[k], set.proposition_right[k]);
-        lines.push(match set.proposition_kind[k] {
-            0x13 => format!("13{left:04X}{right:04X}\n"),
-            kind => format!("{kind:02X}{left:04X}{z:08X}{right:04X}\n"),
-        });
-    }
-    for k in 0..set.q {
-        let (left, z, right) = (set.question_left[k], set.question_offset[k], set.question_right[k]);
-        lines.push(format!("21{left:04X}{z:08X}{right:04X}\n"));
-    }
-    lines.into_iter().map(String::into_bytes).collect()
-}
-
 // Accepted sets
 
 /// Atoms of both kinds with equal numbers and numbers at the ends, dereferences listed again, propositions listed again, questions
@@ -174,7 +153,7 @@ pub fn large(r: &mut Numbers) -> Vec<Text> {
     refuted.proposition(0x13, last, 0, last - 1);
     sets::questions(r, &mut refuted, 512);
     all.push(refuted);
-    all.iter().map(|set| plain(lines(set).concat())).collect()
+    all.iter().map(|set| plain(set.text())).collect()
 }
 
 // Damages

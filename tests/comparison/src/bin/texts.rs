@@ -177,7 +177,7 @@ impl Run {
 fn main() {
     let mut run = Run::new();
     let mut r = Numbers(0x9E37_79B9_7F4A_7C15);
-    let sets: Vec<Vec<Vec<u8>>> = (0..3000).map(|_| texts::lines(&texts::accepted(&mut r))).collect();
+    let sets: Vec<Vec<Vec<u8>>> = (0..3000).map(|_| texts::accepted(&mut r).lines()).collect();
     let whole: Vec<Text> = sets.iter().map(|lines| Text { bytes: lines.concat(), wanted: None }).collect();
     run.group("accepted", &whole);
     let refused: usize = run.refusals.iter().sum();
