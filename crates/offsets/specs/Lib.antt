@@ -1,2 +1,3 @@
 -- When sums of bounded offsets fit 64 bits.
 pub mod Fits
+pub mod Bits

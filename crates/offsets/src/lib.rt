@@ -3,7 +3,7 @@
 
 ghost use mathlib.Core.Path.{_≡_};
 ghost use lib.IntN.{ℤ, _+ℤ_, _-ℤ_, negℤ};
-ghost use mir.Val.{SFits};
+ghost use mir.Val.{SFits, toZ, ofZ};
 ghost use mir.Syntax.{w64};
 ghost use Rattle.integers.specs.Compare.{eqℤ};
 
@@ -39,4 +39,26 @@ pub fn is_same(a: i64, b: i64) -> bool
     ensures { λ r. ⌜ r ≡ eqℤ a b ⌝ }
 {
     a == b
+}
+
+// The number that 64 bits spell in two's complement.
+pub fn signed(bits: u64) -> i64
+    ensures { λ r. ⌜ r ≡ toZ w64 bits ⌝ }
+{
+    if bits < 0x8000_0000_0000_0000 {
+        bits as i64
+    } else {
+        -1 - (0xFFFF_FFFF_FFFF_FFFF - bits) as i64
+    }
+}
+
+// The bits that spell a number in two's complement.
+pub fn bits(z: i64) -> u64
+    ensures { λ r. ⌜ r ≡ ofZ w64 z ⌝ }
+{
+    if 0 <= z {
+        z as u64
+    } else {
+        0xFFFF_FFFF_FFFF_FFFF - (-1 - z) as u64
+    }
 }

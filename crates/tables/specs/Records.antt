@@ -6,20 +6,10 @@ use lib.Dec.{eqb, ltb}
 use lib.IntN.{ℤ, pos, negsuc}
 use Rattle.integers.specs.Compare.{eqℤ}
 use Rattle.lists.specs.Search.{choose}
+pub use Rattle.types.specs.declared.TermRecord.{TermRecord}
+pub use Rattle.types.specs.declared.PropositionRecord.{PropositionRecord}
 use Rattle.rules.specs.Terms.{Term, variable, auxiliary, deref, Proposition, equality, disequality, block-disequality, Comparison}
 use Rattle.tables.specs.Limits.{atomLimit, offsetLimit}
-
--- `number` is the atom's number, or the number of the term that a dereference names
-pub record TermRecord : Type 0 where
-  pub kind : ℕ
-  pub number : ℕ
-  pub offset : ℤ
-
-pub record PropositionRecord : Type 0 where
-  pub kind : ℕ
-  pub left : ℕ
-  pub offset : ℤ
-  pub right : ℕ
 
 -- the kinds, as in the lines of hexadecimal
 abbrev pub variableKind : ℕ

@@ -8,13 +8,9 @@ use lib.ListN.{length, take}
 use Rattle.lists.specs.Search.{choose, any, isSome}
 use Rattle.types.specs.declared.Refusal.{Refusal}
 use Rattle.types.specs.declared.Refusal.the-variants.{InnerNotListed, AtomListedTwice, PropositionTermNotListed, QuestionTermNotListed, Malformed}
+pub use Rattle.types.specs.declared.Fault.{Fault}
 use Rattle.rules.specs.Terms.{Comparison}
 use Rattle.tables.specs.Records.{TermRecord, PropositionRecord, derefKind, termOf, propositionOf, questionOf, sameAtom}
-
--- a refusal with its place
-pub record Fault : Type 0 where
-  pub refusal : Refusal
-  pub place : ℕ
 
 abbrev pub fault : Refusal → ℕ → Option Fault
 fault r k = some (record { refusal = r; place = k })

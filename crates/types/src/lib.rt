@@ -37,6 +37,34 @@ pub enum Refusal {
     GroupOrder,
 }
 
+// A refusal and its place.
+pub struct Fault {
+    pub refusal: Refusal,
+    pub place: usize,
+}
+
+// A record of the table of terms. `number` is the atom's number, or the number of the term that a dereference names.
+pub struct TermRecord {
+    pub kind: u64,
+    pub number: u64,
+    pub offset: i64,
+}
+
+// A record of the table of propositions.
+pub struct PropositionRecord {
+    pub kind: u64,
+    pub left: u64,
+    pub offset: i64,
+    pub right: u64,
+}
+
+// A record of the table of questions.
+pub struct QuestionRecord {
+    pub left: u64,
+    pub offset: i64,
+    pub right: u64,
+}
+
 // What the tests of a call's tables and memory find: nothing, or the first refusal and its place.
 pub enum Checked {
     Accepted,
