@@ -25,6 +25,9 @@ module _ {A : Type 0} where
   tabulate-at f k (suc n) zero d h = let e : k + 0 ≡ k = omega arith in rw e
   tabulate-at f k (suc n) (suc i) d h = let e : k + suc i ≡ suc k + i = omega arith in rw e (tabulate-at f (suc k) n i d (omega arith))
 
+  pub from-zero : (f : ℕ → A) (n k : ℕ) (d : A) → k < n → getD (tabulate f 0 n) k d ≡ f k
+  from-zero f n k d h = let s : 0 + k ≡ k = omega arith in rw s at (tabulate-at f 0 n k d h)
+
   -- the items that are marked
   unfoldable pub select : List Bool → List A → List A
   select [] l = []

@@ -21,6 +21,10 @@ use Rattle.outcome.specs.Outcome.{Outcome, outcome}
 use Rattle.tables.specs.Limits.{most}
 use Rattle.tables.specs.Records.{TermRecord, PropositionRecord, termOf, propositionOf}
 use Rattle.tables.specs.Refusals.{Fault, fault, orElse, firstFault, termFault, propositionFault, questionFault}
+pub use Rattle.tables.specs.Refusals.{faultIf}
+pub use Rattle.tables.specs.Records.{orDefault}
+use Rattle.tables.specs.TermTable.{termsFrom}
+use Rattle.tables.specs.PropositionTable.{propositionsFrom}
 
 -- The input tables: the counts, and a column for each field.
 pub record Tables : Type 0 where
@@ -117,9 +121,6 @@ tooShort T R =
     || (ltb (R .marks) (T .propositions)
     || (ltb (R .pairs) (pairBytes (T .terms)) || ltb (R .answers) (T .questions))))))))))))))
 
-abbrev pub faultIf : Bool → Refusal → ℕ → Option Fault
-faultIf b r k = choose b (fault r k) none
-
 -- the solver's refusal, in its order
 unfoldable pub refusal : Tables → Room → Option Fault
 refusal T R =
@@ -131,16 +132,12 @@ refusal T R =
     (orElse (firstFault (λ k. propositionFault (T .terms) (propositionRecord T k)) 0 (T .propositions))
     (firstFault (λ k. questionFault (T .terms) (questionRecord T k)) 0 (T .questions)))))))
 
-abbrev pub orDefault : {A : Type 0} → A → Option A → A
-orDefault d none = d
-orDefault d (some a) = a
-
 -- the set that accepted tables hold
 unfoldable pub termsOf : Tables → List Term
-termsOf T = tabulate (λ k. orDefault (auxiliary 0) (termOf (termRecord T k))) 0 (T .terms)
+termsOf T = termsFrom (T .terms) (termRecord T)
 
 unfoldable pub propositionsOf : Tables → List Proposition
-propositionsOf T = tabulate (λ k. orDefault (block-disequality 0 0) (propositionOf (propositionRecord T k))) 0 (T .propositions)
+propositionsOf T = propositionsFrom (T .propositions) (propositionRecord T)
 
 unfoldable pub questionsOf : Tables → List Comparison
 questionsOf T = tabulate (questionRecord T) 0 (T .questions)

@@ -3,7 +3,12 @@ pub mod Limits
 pub mod Records
 pub mod Rows
 pub mod Refusals
+pub mod RefusalLaws
 pub mod Call
 pub mod Stands
+pub mod TermTable
+pub mod PropositionTable
+pub mod QuestionTable
+pub mod TableFaults
 pub mod Accepted
 pub mod Places

@@ -40,6 +40,10 @@ offsetInRange (negsuc n) = ltb n offsetLimit
 abbrev pub when : {A : Type 0} → Bool → A → Option A
 when b a = choose b (some a) none
 
+abbrev pub orDefault : {A : Type 0} → A → Option A → A
+orDefault d none = d
+orDefault d (some a) = a
+
 -- an atom's record: its number in range, its offset 0
 unfoldable pub atomRecord : TermRecord → Bool
 atomRecord r = ltb (r .number) atomLimit && eqℤ (r .offset) (pos 0)

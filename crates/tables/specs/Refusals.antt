@@ -15,6 +15,9 @@ use Rattle.tables.specs.Records.{TermRecord, PropositionRecord, derefKin
 abbrev pub fault : Refusal → ℕ → Option Fault
 fault r k = some (record { refusal = r; place = k })
 
+abbrev pub faultIf : Bool → Refusal → ℕ → Option Fault
+faultIf b r k = choose b (fault r k) none
+
 -- the first of two that is there
 abbrev pub orElse {ℓ} : {A : Type ℓ} → Option A → Option A → Option A
 orElse none b = b

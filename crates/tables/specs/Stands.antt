@@ -6,7 +6,7 @@ use mathlib.Core.Option.{Option, none, some}
 use native.Mathlib.Omega.{arith}
 use lib.Dec.{eqb, ltb}
 use lib.IntN.{ℤ, pos, negsuc}
-use borrow.Author.Tests.{eqb-true, ltb-true}
+use borrow.Author.Tests.{eqb-true, ne-eqb, ltb-true}
 use Rattle.integers.specs.Linear.{up, dn, value, #_}
 use Rattle.integers.specs.Compare.{eqℤ, eqℤ-true}
 use Rattle.lists.specs.Search.{choose}
@@ -75,6 +75,15 @@ stands-for r x = go (eqb (r .kind) variableKind) refl (eqb (r .kind) auxiliaryKi
     go false k false l e =
         let s = when-some (eqb (r .kind) derefKind && offsetInRange (r .offset)) (deref (r .offset) (r .number)) x e in
         rw (← (s .1)) (record { kind = eqb-true _ _ (and-true (eqb (r .kind) derefKind) _ (s .0) .0); number = refl; offset = refl })
+
+-- the offset of a well-formed dereference is within the limit
+pub deref-within : (r : TermRecord) (x : Term) → termOf r ≡ some x → r .kind ≡ derefKind → Within offsetLimit (r .offset)
+unfolding termOf
+deref-within r x e k =
+    let t : eqb (r .kind) variableKind ≡ false = ne-eqb (r .kind) variableKind (λ v. omega arith) in
+    let u : eqb (r .kind) auxiliaryKind ≡ false = ne-eqb (r .kind) auxiliaryKind (λ v. omega arith) in
+    let s = when-some (eqb (r .kind) derefKind && offsetInRange (r .offset)) (deref (r .offset) (r .number)) x (rw (t, u) at e) in
+    in-range (r .offset) (and-true (eqb (r .kind) derefKind) _ (s .0) .1)
 
 -- a term is told by its kind
 pub deref-by-kind : (x : Term) → kindOf x ≡ derefKind → x ≡ deref (offsetOf x) (numberOf x)

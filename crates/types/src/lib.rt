@@ -43,6 +43,12 @@ pub struct Fault {
     pub place: usize,
 }
 
+// What the tests of tables find: nothing, or the first fault.
+pub enum Acceptance {
+    Accepted,
+    Refused(Fault),
+}
+
 // A record of the table of terms. `number` is the atom's number, or the number of the term that a dereference names.
 pub struct TermRecord {
     pub kind: u64,

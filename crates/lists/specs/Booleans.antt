@@ -1,0 +1,10 @@
+-- Laws of Bool.
+use mathlib.Core.Path.{_≡_, refl}
+use mathlib.Core.Bool.{Bool, true, false, _||_}
+
+pub or-false : (a b : Bool) → (a || b) ≡ false → (a ≡ false) × (b ≡ false)
+or-false true b e = (e, cc)
+or-false false b e = (refl, e)
+
+pub both-false : (a b : Bool) → a ≡ false → b ≡ false → (a || b) ≡ false
+both-false a b e f = rw (e, f)
