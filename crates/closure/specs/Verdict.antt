@@ -12,6 +12,7 @@ use lib.ListN.{length}
 use borrow.Author.Tests.{eqb-true, eqb-false, eq-eqb, not-true, not-false}
 use Rattle.integers.specs.Linear.{linear, value, ‹_›, #_, _⊕_}
 use Rattle.integers.specs.Compare.{eqℤ, eqℤ-true, eqℤ-false, eq-eqℤ}
+use Rattle.lists.specs.Booleans.{or-false}
 use Rattle.lists.specs.Items.{Item, In, item-below}
 use Rattle.lists.specs.Search.{any, any-true, any-false, isSome, findPair, findPair-some, findPair-none}
 use Rattle.rules.specs.Terms.{Term, deref, Comparison, Given, WellFormed}
@@ -54,10 +55,6 @@ conflicting ts F P =
 
 unfoldable pub contradictory : List Term → Facts → Bool
 contradictory ts F = conflicting ts F (placed (closure ts F))
-
-or-false : (a b : Bool) → (a || b) ≡ false → (a ≡ false) × (b ≡ false)
-or-false true b e = (e, cc)
-or-false false b e = (refl, e)
 
 module _ (ts : List Term) (G : Given) (wf : WellFormed ts G) (F : Facts) (ls : Lists F G) (P : Placement) where
   -- a labelling with no conflict is an assignment

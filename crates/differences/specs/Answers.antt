@@ -25,7 +25,8 @@ use Rattle.outcome.specs.PairBits.{pairBytes}
 use Rattle.outcome.specs.Outcome.{answer}
 use Rattle.tables.specs.Records.{derefKind, disequalityKind}
 use Rattle.tables.specs.Call.{Tables, questionRecord, questionsOf, termsOf, propositionsOf, overwrite}
-use Rattle.tables.specs.Accepted.{GoodQuestions, accepted-questions, length-terms, from-zero}
+use Rattle.lists.specs.Tabulate.{from-zero}
+use Rattle.tables.specs.Accepted.{GoodQuestions, accepted-questions, length-terms}
 use Rattle.pairbits.specs.Bits.{isSet, front-at, rest-at, length-over}
 use Rattle.differences.specs.Table.{Over, base-different, inverse-different, different-ways}
 use Rattle.differences.specs.Marks.{Adds, false-true}

@@ -20,7 +20,9 @@ use Rattle.closure.specs.Closure.{and-true}
 use Rattle.tables.specs.Records.{TermRecord, PropositionRecord, variableKind, auxiliaryKind, derefKind, equalityKind, disequalityKind, blockDisequalityKind, when, atomRecord, offsetInRange, termOf, propositionOf, sameAtom}
 use Rattle.tables.specs.Refusals.{refuseIf, malformed, termNameFault, termFault, propositionFault}
 use Rattle.tables.specs.Call.{Tables, termRecord, propositionRecord, orDefault, termsOf, propositionsOf}
-use Rattle.tables.specs.Accepted.{Good, orElse-none, malformed-none, refuseIf-none, from-zero, length-terms}
+use Rattle.lists.specs.Tabulate.{from-zero}
+use Rattle.tables.specs.RefusalLaws.{orElse-none, malformed-none, refuseIf-none}
+use Rattle.tables.specs.Accepted.{Good, length-terms}
 use Rattle.tables.specs.Stands.{when-some}
 
 -- a record and the term that it stands for

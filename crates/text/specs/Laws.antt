@@ -14,7 +14,7 @@ use Rattle.types.specs.declared.Refusal.{Refusal}
 use Rattle.types.specs.declared.Refusal.the-variants.{TooManyTerms, TooManyPropositions, TooManyQuestions, Malformed, GroupOrder}
 use Rattle.tables.specs.Limits.{most}
 use Rattle.tables.specs.Refusals.{Fault, orElse, refuseIf, termNameFault, propositionNameFault, questionNameFault}
-use Rattle.tables.specs.Accepted.{orElse-none, refuseIf-none}
+use Rattle.tables.specs.RefusalLaws.{orElse-none, refuseIf-none}
 use Rattle.text.specs.Lines.{Line, digit, digitOf}
 use Rattle.text.specs.Frames.{Frame, term, proposition, question, frameOf}
 use Rattle.text.specs.Reading.{Records, refused, isEmpty, full, frameFault, withFrame, Step, refuse, go-on, stepFault, stepFrame, step, after, readLines}
