@@ -15,7 +15,8 @@ use Rattle.integers.specs.Linear.{value, #_}
 use Rattle.labels.specs.Spread.{Within}
 use Rattle.labels.specs.View.{view}
 use Rattle.congruence.specs.declared.Look.{Look}
-use Rattle.congruence.specs.Joining.{Labels, Joined, joined-keeps}
+use Rattle.labels.specs.Joins.{Joined, joined-keeps}
+use Rattle.congruence.specs.Joining.{Labels}
 use Rattle.congruence.specs.Live.{LiveAt, joined-live}
 use Rattle.congruence.specs.Addresses.{Same, Looked, pair}
 

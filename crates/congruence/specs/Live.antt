@@ -27,7 +27,8 @@ use Rattle.tables.specs.Limits.{most, offsetLimit}
 use Rattle.tables.specs.Records.{equalityKind, disequalityKind, blockDisequalityKind}
 use Rattle.tables.specs.Call.{Tables, propositionRecord, termsOf, propositionsOf}
 use Rattle.tables.specs.Accepted.{Good, length-terms, accepted-well-formed, accepted-bounded, sides-listed, equality-item, disequality-item, block-item}
-use Rattle.congruence.specs.Joining.{Labels, Linked, Joined, down, rise, joined-keeps, joined-holds}
+use Rattle.labels.specs.Joins.{Linked, Joined, down, rise, joined-keeps, joined-holds}
+use Rattle.congruence.specs.Joining.{Labels}
 
 -- proposition k is kept
 abbrev pub isKept : List ℕ → ℕ → Bool

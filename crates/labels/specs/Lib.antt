@@ -4,5 +4,6 @@ pub mod Labelling
 pub mod Unique
 pub mod Relabel
 pub mod Spread
+pub mod Joins
 pub mod Steps
 pub mod View

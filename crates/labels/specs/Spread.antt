@@ -1,5 +1,5 @@
 -- Two terms of a class of s members are at most (s − 1) × W apart, where W bounds the offsets of the equalities joined.
-use Prim.Native.Nat.{ℕ, zero, suc, _+_, _*_, _<_, _≤_}
+use Prim.Native.Nat.{ℕ, zero, suc, _+_, _*_, _^_, _<_, _≤_}
 use mathlib.Core.Path.{_≡_, refl, sym, _∙_}
 use mathlib.Core.Logic.{_≢_, _⊎_, inl, inr, ⊎-elim}
 use mathlib.Core.Bool.{Bool, true, false}
@@ -16,6 +16,10 @@ use Rattle.labels.specs.Relabel.{Relabelled, Rooted, same-or-not}
 pub record Within (B : ℕ) (z : ℤ) : Type 0 where
   pub above : up z ≤ dn z + B
   pub below : dn z ≤ up z + B
+
+-- no offset of a labelling of at most 512 terms, and no sum of four such, leaves 64 bits
+abbrev pub far : ℕ
+far = 2 ^ 41
 
 abbrev indicator : Bool → ℕ
 indicator true = 1

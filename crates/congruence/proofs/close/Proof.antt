@@ -5,7 +5,8 @@ use borrow.Author.Needs.{needs}
 use lib.IntN.{pos}
 use lib.ListN.{length}
 use Rattle.labels.specs.View.{view}
-use Rattle.congruence.specs.Joining.{weight, labels-columns, joined-lighter, joined-labels}
+use Rattle.labels.specs.Joins.{weight, joined-lighter}
+use Rattle.congruence.specs.Joining.{labels-columns, joined-labels}
 use Rattle.congruence.specs.Closing.{Chain, start, more, closed, clash, Turn, looked-pair, looked-closed, zero-within}
 use Rattle.congruence.proofs.close.Statement.{statement}
 use Rattle.congruence.proofs.close.Tie as tie

@@ -5,7 +5,7 @@ use mir.Syntax.{w64}
 use mir.ValLaws.{toZ-ofZ}
 use borrow.Author.Needs.{sfits-of}
 use Rattle.offsets.specs.Fits.{within-negation, within-fits}
-use Rattle.congruence.specs.Joining.{down, rise}
+use Rattle.labels.specs.Joins.{down, rise}
 use borrow.Author.Needs.{needs}
 use Rattle.congruence.proofs.join.Statement.{statement}
 use Rattle.congruence.proofs.join.Tie as tie
