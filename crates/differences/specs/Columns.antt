@@ -17,6 +17,8 @@ use Rattle.lists.specs.Tabulate.{tabulate, length-tabulate}
 use Rattle.types.specs.declared.Refusal.the-variants.{InnerNotListed, AtomListedTwice}
 use Rattle.rules.specs.Terms.{Term, variable, auxiliary, deref, Proposition, equality, disequality, block-disequality}
 use Rattle.closure.specs.Closure.{and-true}
+use Rattle.tables.specs.TermTable.{termsFrom}
+use Rattle.tables.specs.PropositionTable.{propositionsFrom}
 use Rattle.tables.specs.Records.{TermRecord, PropositionRecord, variableKind, auxiliaryKind, derefKind, equalityKind, disequalityKind, blockDisequalityKind, when, atomRecord, offsetInRange, termOf, propositionOf, sameAtom}
 use Rattle.tables.specs.Refusals.{refuseIf, malformed, termNameFault, termFault, propositionFault}
 use Rattle.tables.specs.Call.{Tables, termRecord, propositionRecord, orDefault, termsOf, propositionsOf}
@@ -137,7 +139,7 @@ same-item : {A : Type 0} (l : List A) (k : ℕ) {x y : A} → Item l k x → Ite
 same-item l k i j = cc
 
 length-propositions : (T : Tables) → length (propositionsOf T) ≡ T .propositions
-unfolding propositionsOf
+unfolding propositionsOf propositionsFrom
 length-propositions T = length-tabulate (λ k. orDefault (block-disequality 0 0) (propositionOf (propositionRecord T k))) 0 (T .propositions)
 
 module _ (T : Tables) (good : Good T) where
@@ -150,11 +152,11 @@ module _ (T : Tables) (good : Good T) where
   proposition-there k h = malformed-none (propositionOf (propositionRecord T k)) (orElse-none _ _ (good .propositions k h) .0)
 
   term-item : (k : ℕ) (x : Term) → k < T .terms → termOf (termRecord T k) ≡ some x → Item (termsOf T) k x
-  unfolding termsOf
+  unfolding termsOf termsFrom
   term-item k x h e = tabulated (λ j. termOf (termRecord T j)) (auxiliary 0) (T .terms) k x h e
 
   proposition-item : (k : ℕ) (x : Proposition) → k < T .propositions → propositionOf (propositionRecord T k) ≡ some x → Item (propositionsOf T) k x
-  unfolding propositionsOf
+  unfolding propositionsOf propositionsFrom
   proposition-item k x h e = tabulated (λ j. propositionOf (propositionRecord T j)) (block-disequality 0 0) (T .propositions) k x h e
 
   -- a record of a kind is an item of that kind

@@ -15,6 +15,7 @@ use Rattle.rules.specs.Terms.{auxiliary, block-disequality}
 use Rattle.outcome.specs.PairBits.{pairBytes}
 use Rattle.outcome.specs.Outcome.{Outcome}
 use Rattle.outcome.specs.Lengths.{Lengths, outcome-lengths}
+use Rattle.tables.specs.PropositionTable.{propositionsFrom}
 use Rattle.tables.specs.Limits.{most}
 use Rattle.tables.specs.Records.{termOf, propositionOf}
 use Rattle.tables.specs.Call.{Tables, Memory, room, refusal, termRecord, propositionRecord, questionRecord, orDefault, overwrite, termsOf, propositionsOf, questionsOf, run, solvedBy, returned, left, written}
@@ -44,7 +45,7 @@ module _ (T : Tables) (accepted : refusal T fullRoom ≡ none) where
   ok = passed T fullRoom accepted
 
   length-propositions : length (propositionsOf T) ≡ T .propositions
-  unfolding propositionsOf
+  unfolding propositionsOf propositionsFrom
   length-propositions = length-tabulate (λ k. orDefault (block-disequality 0 0) (propositionOf (propositionRecord T k))) 0 (T .propositions)
 
   length-questions : length (questionsOf T) ≡ T .questions

@@ -9,6 +9,8 @@ use lib.Seq.{take-length}
 use Rattle.lists.specs.Items.{Item, item-below, item-map}
 use Rattle.lists.specs.Tabulate.{tabulate}
 use Rattle.rules.specs.Terms.{auxiliary, block-disequality, Comparison}
+use Rattle.tables.specs.TermTable.{termsFrom}
+use Rattle.tables.specs.PropositionTable.{propositionsFrom}
 use Rattle.tables.specs.Records.{TermRecord, PropositionRecord, termOf, propositionOf}
 use Rattle.tables.specs.Call.{Tables, termRecord, propositionRecord, questionRecord, overwrite, orDefault, termsOf, propositionsOf, questionsOf, run}
 use Rattle.text.specs.Reading.{Records}
@@ -93,13 +95,13 @@ module _ (R : Records) (C : Columns) where
   front-held n h = tabulate-take (termRecord (tablesOf R C)) (R .terms) 0 n h (λ k x i. let z : 0 + k ≡ k = omega arith in rw z (term-held k x i))
 
   pub terms-held : termsOf (tablesOf R C) ≡ map (λ r. orDefault (auxiliary 0) (termOf r)) (R .terms)
-  unfolding termsOf tablesOf
+  unfolding termsOf tablesOf termsFrom
   terms-held =
       tabulate-map (λ r. orDefault (auxiliary 0) (termOf r)) (termRecord (tablesOf R C)) (R .terms) 0
       (λ k x i. let z : 0 + k ≡ k = omega arith in rw z (term-held k x i))
 
   pub propositions-held : propositionsOf (tablesOf R C) ≡ map (λ p. orDefault (block-disequality 0 0) (propositionOf p)) (R .propositions)
-  unfolding propositionsOf tablesOf
+  unfolding propositionsOf tablesOf propositionsFrom
   propositions-held =
       tabulate-map (λ p. orDefault (block-disequality 0 0) (propositionOf p)) (propositionRecord (tablesOf R C)) (R .propositions) 0
       (λ k x i. let z : 0 + k ≡ k = omega arith in rw z (proposition-held k x i))

@@ -9,6 +9,8 @@ use Rattle.types.specs.declared.Verdict.{Verdict}
 use Rattle.types.specs.declared.Refusal.{Refusal}
 use Rattle.types.specs.declared.Solved.{Solved}
 use Rattle.outcome.specs.Outcome.{Outcome, outcome}
+use Rattle.tables.specs.TermTable.{termsFrom}
+use Rattle.tables.specs.PropositionTable.{propositionsFrom}
 use Rattle.tables.specs.Refusals.{fault}
 use Rattle.tables.specs.Call.{Tables, Memory, room, setOf, refusal, termsOf, propositionsOf, questionsOf, written, run, solvedBy, returned, left}
 use Rattle.tables.specs.Accepted.{Good, passed}
@@ -74,7 +76,7 @@ module _
         }
 
     run-is : run T ≡ outcome (termsOf S) (propositionsOf S) (questionList q qlefts qzs qrights)
-    unfolding run termsOf propositionsOf questionsOf
+    unfolding run termsOf propositionsOf questionsOf termsFrom propositionsFrom
     run-is = refl
 
     written-is : (O : Outcome) (M N : Memory) → Leaves O (M .representatives) (M .offsets) (M .marks) (M .pairs) (M .answers) (N .representatives) (N .offsets) (N .marks) (N .pairs) (N .answers) → N ≡ written O M

@@ -30,6 +30,7 @@ use Rattle.closure.specs.Differences.{different, different-exact}
 use Rattle.outcome.specs.PairBits.{bitValue, pairBit, pairBits, pairBytes}
 use Rattle.outcome.specs.Blame.{blame}
 use Rattle.outcome.specs.Outcome.{Outcome, answer, satisfiable, contradiction, outcome}
+use Rattle.tables.specs.TermTable.{termsFrom}
 use Rattle.tables.specs.Call.{Tables, Memory, termsOf, propositionsOf, questionsOf, overwrite, solvedBy}
 use Rattle.tables.specs.Accepted.{Good, GoodQuestions, length-terms, length-propositions, accepted-well-formed, accepted-questions}
 use Rattle.differences.specs.Base.{sides, Ready}
@@ -211,7 +212,7 @@ module _ (T : Tables) (good : Good T) where
 
   module _ (q : ℕ) (lefts : List ℕ) (zs : List ℤ) (rights : List ℕ) (G : GoodQuestions (asking T q lefts zs rights)) where
     sides-of : (k : ℕ) (c : Comparison) → Item (questionList q lefts zs rights) k c → (c .left < T .terms) × (c .right < T .terms)
-    unfolding questionsOf termsOf
+    unfolding questionsOf termsOf termsFrom
     sides-of k c i = let r = accepted-questions (asking T q lefts zs rights) G k i in let n = length-terms (asking T q lefts zs rights) in (omega (arith, r .0, n), omega (arith, r .1, n))
 
     -- the columns of a satisfiable set

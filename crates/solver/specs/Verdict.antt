@@ -14,6 +14,8 @@ use Rattle.closure.specs.Facts.{facts}
 use Rattle.closure.specs.Verdict.{contradictory}
 use Rattle.outcome.specs.PairBits.{pairBytes}
 use Rattle.outcome.specs.Outcome.{outcome, satisfiable, contradiction}
+use Rattle.tables.specs.TermTable.{termsFrom}
+use Rattle.tables.specs.PropositionTable.{propositionsFrom}
 use Rattle.tables.specs.Limits.{most}
 use Rattle.tables.specs.Refusals.{Fault}
 use Rattle.tables.specs.Call.{Tables, Memory, Room, room, setOf, tooShort, refusal, checked, termsOf, propositionsOf, run, returned}
@@ -91,7 +93,7 @@ unasked T = setOf (T .terms) (T .termKinds) (T .termNumbers) (T .termOffsets) (T
 
 -- an accepted call with questions returns the verdict on the set without them
 pub solve-agrees-asked : (T : Tables) (M N : Memory) (r : Solved) → Answered T M N r → refusal T (room M) ≡ none → r ≡ verdictOf (unasked T)
-unfolding termsOf propositionsOf
+unfolding termsOf propositionsOf termsFrom propositionsFrom
 solve-agrees-asked T M N r A e =
     let p = passed T (room M) e in
     let S = unasked T in

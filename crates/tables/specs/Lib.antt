@@ -9,6 +9,7 @@ pub mod Stands
 pub mod TermTable
 pub mod PropositionTable
 pub mod QuestionTable
+pub mod Sets
 pub mod TableFaults
 pub mod Accepted
 pub mod Places
