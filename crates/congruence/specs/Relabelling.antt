@@ -9,7 +9,6 @@ use lib.ListN.{length, getD, set, length-set}
 use lib.Seq.{getD-set-same, getD-set-other}
 use Rattle.rules.specs.Assignments.{Placement}
 use Rattle.labels.specs.Relabel.{Relabelled, same-or-not}
-use Rattle.labels.specs.Steps.{Fresh}
 use Rattle.labels.specs.View.{view}
 
 -- the first t terms are relabelled, the others are as they were
@@ -103,36 +102,3 @@ module _ (reps0 : List ℕ) (offs0 : List ℤ) (n from : ℕ) (d : ℤ) (to : �
 
         other : (k : ℕ) → k ≡ t → P .block k ≢ from → ⊥
         other k s f = f (rw s (sym (T .front .same-rep t (omega arith)) ∙ e))
-
--- the first t terms are fresh
-pub record Clearing (reps0 : List ℕ) (offs0 : List ℤ) (n t : ℕ) (reps : List ℕ) (offs : List ℤ) : Type 0 where
-  pub within : t ≤ n
-  pub long-reps : length reps ≡ length reps0
-  pub long-offs : length offs ≡ length offs0
-  pub fresh : Fresh t (view reps offs)
-
-module _ (reps0 : List ℕ) (offs0 : List ℤ) (n : ℕ) where
-  pub clearing-start : Clearing reps0 offs0 n 0 reps0 offs0
-  clearing-start = record {
-    within = omega arith;
-    long-reps = refl;
-    long-offs = refl;
-    fresh = record { block = λ t h. absurd (omega arith); position = λ t h. absurd (omega arith) };
-  }
-
-  pub clearing-next : (t : ℕ) (reps : List ℕ) (offs : List ℤ) → Clearing reps0 offs0 n t reps offs → t < n → t < length reps → t < length offs → Clearing reps0 offs0 n (t + 1) (set reps t t) (set offs t (pos 0))
-  clearing-next t reps offs C h hr ho = record {
-    within = omega arith;
-    long-reps = length-set reps t t ∙ C .long-reps;
-    long-offs = length-set offs t (pos 0) ∙ C .long-offs;
-    fresh = record {
-      block = λ k b. ⊎-elim
-          (λ (e : k ≡ t). rw e (getD-set-same reps t t 0 hr))
-          (λ (m : k ≢ t). getD-set-other reps t k t 0 m ∙ C .fresh .block k (omega arith))
-          (same-or-not k t);
-      position = λ k b. ⊎-elim
-          (λ (e : k ≡ t). rw e (getD-set-same offs t (pos 0) (pos 0) ho))
-          (λ (m : k ≢ t). getD-set-other offs t k (pos 0) (pos 0) m ∙ C .fresh .position k (omega arith))
-          (same-or-not k t);
-    };
-  }

@@ -7,3 +7,4 @@ pub mod Spread
 pub mod Joins
 pub mod Steps
 pub mod View
+pub mod Clearing

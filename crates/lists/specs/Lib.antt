@@ -1,6 +1,7 @@
--- Lists by the numbers of their items: searches, and lists collected from others.
+-- Lists by the numbers of their items: searches, lists collected from others, and lists that are lent.
 pub mod Booleans
 pub mod Items
 pub mod Search
 pub mod Collect
 pub mod Tabulate
+pub mod Lent

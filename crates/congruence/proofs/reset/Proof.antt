@@ -1,6 +1,6 @@
 -- `congruence::reset` meets its contract.
 use mathlib.Core.Path.{_≡_}
-use Rattle.congruence.specs.Relabelling.{Clearing, clearing-start, clearing-next}
+use Rattle.labels.specs.Clearing.{Clearing, clearing-start, clearing-next}
 use Prim.Native.Nat.{ℕ, suc, _+_, _-_, _≤_, _<_}
 use native.Mathlib.Omega.{arith}
 use borrow.Author.Needs.{needs}

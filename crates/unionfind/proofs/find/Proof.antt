@@ -1,0 +1,84 @@
+-- `unionfind::find` meets its contract. The number of the term that is looked at falls.
+use mathlib.Core.Path.{refl, _∙_}
+use native.Mathlib.Omega.{arith}
+use mir.Syntax.{w64}
+use mir.Val.{toZ}
+use mir.ValLaws.{toZ-ofZ}
+use borrow.Author.Needs.{sfits-of}
+use Rattle.offsets.specs.Fits.{within-fits}
+use Rattle.unionfind.specs.Turns.{Finding, finding-start, finding-within, finding-next, finding-found}
+use Rattle.unionfind.proofs.find.Statement.{statement}
+use Rattle.unionfind.proofs.find.Tie as tie
+
+abbrev Inv-loop : tie.InvT-loop
+Inv-loop parents₀ offsets₀ at₀ offset₀ parents offsets at offset = Finding parents₀ offsets₀ parents offsets at₀ at (toZ w64 offset)
+
+abbrev μ-loop : tie.MeasureT-loop
+μ-loop parents₀ offsets₀ at₀ offset₀ parents offsets at offset = at
+
+loop-holds : tie.Need-loop-holds Inv-loop μ-loop
+loop-holds c = let s = c .before in finding-start (s .pre .0 .0) (s .pre .1)
+
+mul-if1 : tie.Need-mul-if1 Inv-loop μ-loop
+mul-if1 c = omega arith
+
+slice-read-if1 : tie.Need-slice-read-if1 Inv-loop μ-loop
+slice-read-if1 c = omega arith
+
+cast-if1 : tie.Need-cast-if1 Inv-loop μ-loop
+cast-if1 c = let l = c .before in omega (arith, l .loop .inv .links .falls (l .loop .at))
+
+same-length : tie.Need-same-length Inv-loop μ-loop
+same-length c = omega arith
+
+same-length-2 : tie.Need-same-length-2 Inv-loop μ-loop
+same-length-2 c = omega arith
+
+returns : tie.Need-returns Inv-loop μ-loop
+returns c = finding-found (c .before .before .loop .inv) _ (c .if1 .taken) refl refl
+
+halve-requires : tie.Need-halve-requires Inv-loop μ-loop
+halve-requires c κs =
+    let l = c .before .before .before .before in
+    let s = c .before .before .before .before .before .before in
+    ((l .loop .inv .links, rw (l .loop .inv .long, l .loop .inv .same) (s .pre .0 .1)), (l .loop .inv .below, c .before .before .if1 .left))
+
+mul-sum : tie.Need-mul-sum Inv-loop μ-loop
+mul-sum c = omega arith
+
+slice-copy-out-sum : tie.Need-slice-copy-out-sum Inv-loop μ-loop
+slice-copy-out-sum c = omega arith
+
+sum-requires : tie.Need-sum-requires Inv-loop μ-loop
+sum-requires c κs =
+    let s = c .before .before .before .before .before .before .before .before .before .before .before in
+    rw (toZ-ofZ w64 _ (sfits-of (c .sum-arg .given)))
+    (within-fits (omega arith) (finding-within (c .before .before .before .before .before .before .before .before .before .loop .inv) (c .before .before .before .before .halve .ensures) (s .pre .0 .1) (s .pre .1)))
+
+loop-less : tie.Need-loop-less Inv-loop μ-loop
+loop-less c = c .before .before .before .before .before .halve .ensures .lower
+
+loop-again : tie.Need-loop-again Inv-loop μ-loop
+loop-again c =
+    let e = rw (toZ-ofZ w64 _ (sfits-of (c .before .sum-arg .given))) at (c .sum .ensures) in
+    finding-next (c .before .before .before .before .before .before .before .before .before .before .loop .inv) (c .before .before .before .before .before .halve .ensures) (toZ-ofZ w64 _ (sfits-of (c .sum .ok)) ∙ e)
+
+pub find-spec : {M : Type 1} → statement M
+find-spec =
+    tie.close
+    (tie.spec
+    Inv-loop
+    μ-loop
+    loop-holds
+    mul-if1
+    slice-read-if1
+    cast-if1
+    same-length
+    same-length-2
+    returns
+    halve-requires
+    mul-sum
+    slice-copy-out-sum
+    sum-requires
+    loop-less
+    loop-again)
