@@ -2,3 +2,4 @@
 pub mod Forest
 pub mod Hanging
 pub mod Turns
+pub mod Uniting

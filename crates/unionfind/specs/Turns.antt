@@ -1,28 +1,24 @@
--- What the functions below the public ones leave, and how far a loop has come.
-use Prim.Native.Nat.{ℕ, zero, suc, _+_, _<_, _≤_}
+-- How far the loops have come, and what one step of halving leaves.
+use Prim.Native.Nat.{ℕ, _+_, _<_, _≤_}
 use mathlib.Core.Path.{_≡_, refl, sym, _∙_, ap}
 use mathlib.Core.Logic.{_≢_, _⊎_, inl, inr, ⊎-elim}
 use mathlib.Core.Bool.{Bool, true, false}
 use mathlib.Core.List.{List}
 use native.Mathlib.Omega.{arith}
 use lib.Dec.{ltb}
-use lib.IntN.{ℤ, pos, negℤ, _+ℤ_, _-ℤ_}
+use lib.IntN.{ℤ, pos, _+ℤ_}
 use lib.ListN.{length, getD, set, length-set, List·getD-eq-default}
 use lib.Seq.{getD-set-same, getD-set-other}
 use borrow.Author.Tests.{ltb-true, ltb-false}
-use Rattle.integers.specs.Compare.{eqℤ, eqℤ-true, eqℤ-false}
-use Rattle.integers.specs.Linear.{linear, value, ‹_›, #_, _⊕_, _⊖_}
-use Rattle.rules.specs.Assignments.{Placement, Holds}
-use Rattle.labels.specs.Relabel.{Relabelled, same-or-not}
+use Rattle.integers.specs.Linear.{linear, value, ‹_›, #_, _⊕_}
+use Rattle.rules.specs.Assignments.{Placement}
+use Rattle.labels.specs.Relabel.{same-or-not}
 use Rattle.labels.specs.Spread.{Within, far}
-use Rattle.labels.specs.Joins.{Joined, down, rise}
-use Rattle.labels.specs.Steps.{Fresh}
 use Rattle.labels.specs.View.{view}
 use Rattle.labels.specs.Clearing.{Clearing}
 use Rattle.unionfind.specs.declared.Root.{Root}
-use Rattle.unionfind.specs.declared.Joining.{Joining}
-use Rattle.unionfind.specs.Forest.{Links, flat, Near, Follows, Found, Equated, joined, held, clashed, Flattened, Cleared, flat-follows, flat-lowest, flat-root, past-block, past-position, same-placement}
-use Rattle.unionfind.specs.Hanging.{hung-links, hung-same, hung-moves}
+use Rattle.unionfind.specs.Forest.{Links, flat, Near, Follows, Found, Flattened, Cleared, flat-follows, past-block, past-position, same-placement}
+use Rattle.unionfind.specs.Hanging.{hung-links, hung-same}
 
 -- t hangs under r, which was its parent's parent
 pub record Halved (p0 : List ℕ) (o0 : List ℤ) (p : List ℕ) (o : List ℤ) (t r : ℕ) : Type 0 where
@@ -264,78 +260,3 @@ module _ {p0 : List ℕ} {o0 : List ℤ} {p : List ℕ} {o : List ℤ} {i : ℕ}
     links = F .links;
     same = F .same;
   }
-
--- the class of the root `from` hangs under the root `to`
-pub record Linking (p0 : List ℕ) (o0 : List ℤ) (p : List ℕ) (o : List ℤ) (from : ℕ) (d : ℤ) (to : ℕ) : Type 0 where
-  pub links : Links p o
-  pub long : length p ≡ length p0
-  pub moves : Relabelled (length p0) (flat p0 o0) (flat p o) from d to
-
-pub linking : {p : List ℕ} {o : List ℤ} (from : ℕ) (d : ℤ) (to : ℕ) → Links p o → from < length p → to < from → getD p from 0 ≡ from → getD p to 0 ≡ to → Linking p o (set p from to) (set o from d) from d to
-linking {p} from d to L h lower ef et = record {
-  links = hung-links L from to d h lower;
-  long = length-set p from to;
-  moves = hung-moves L from to d h lower ef et;
-}
-
--- x and y are the labels of a and b
-pub record Pair (p0 : List ℕ) (o0 : List ℤ) (p : List ℕ) (o : List ℤ) (a : ℕ) (x : Root) (b : ℕ) (y : Root) : Type 0 where
-  pub links : Links p o
-  pub same : flat p o ≡ flat p0 o0
-  pub long : length p ≡ length p0
-  pub root-a : x .term .0 ≡ flat p0 o0 .block a
-  pub offset-a : x .offset ≡ flat p0 o0 .position a
-  pub root-b : y .term .0 ≡ flat p0 o0 .block b
-  pub offset-b : y .offset ≡ flat p0 o0 .position b
-
-pub found-both : {p0 : List ℕ} {o0 : List ℤ} {p1 : List ℕ} {o1 : List ℤ} {p : List ℕ} {o : List ℤ} {a b : ℕ} {x y : Root} → Found p0 o0 p1 o1 a x → Found p1 o1 p o b y → Pair p0 o0 p o a x b y
-found-both A B = record {
-  links = B .links;
-  same = B .same ∙ A .same;
-  long = B .long ∙ A .long;
-  root-a = A .root;
-  offset-a = A .offset;
-  root-b = rw (A .same) at (B .root);
-  offset-b = rw (A .same) at (B .offset);
-}
-
-module _ {p0 : List ℕ} {o0 : List ℤ} {p : List ℕ} {o : List ℤ} {a b : ℕ} {x y : Root} (B : Pair p0 o0 p o a x b y) where
-  pub swapped : Pair p0 o0 p o b y a x
-  swapped = record {
-    links = B .links;
-    same = B .same;
-    long = B .long;
-    root-a = B .root-b;
-    offset-a = B .offset-b;
-    root-b = B .root-a;
-    offset-b = B .offset-a;
-  }
-
-  pub pair-root : getD p (x .term .0) 0 ≡ x .term .0
-  pair-root = rw (B .root-a, ← B .same) (flat-root (B .links) a)
-
-  pub pair-below : a < length p0 → x .term .0 < length p
-  pair-below h = rw (B .root-a, ← B .same) (omega (arith, flat-lowest (B .links) a, B .long))
-
-  pub pair-near : Near (length p0) (flat p0 o0) → a < length p0 → Within far (x .offset)
-  pair-near N h = rw (B .offset-a) (N .near h)
-
-  module _ (z : ℤ) where
-    pub pair-held : x .term .0 ≡ y .term .0 → x .offset ≡ z +ℤ y .offset → Equated p0 o0 p o a z b Joining.Held
-    pair-held e d = held (B .links) (B .long) (B .same) (record {
-      same-block = sym (B .root-a) ∙ e ∙ B .root-b;
-      at-offset = rw (B .offset-a, B .offset-b) at d;
-    })
-
-    pub pair-clashed : x .term .0 ≡ y .term .0 → x .offset ≢ z +ℤ y .offset → Equated p0 o0 p o a z b Joining.Clashed
-    pair-clashed e m = clashed (B .links) (B .long) (B .same) (sym (B .root-a) ∙ e ∙ B .root-b) (rw (B .offset-a, B .offset-b) at m)
-
-    module _ {p1 : List ℕ} {o1 : List ℤ} where
-      relabels : Linking p o p1 o1 (x .term .0) (z +ℤ y .offset -ℤ x .offset) (y .term .0) → Relabelled (length p0) (flat p0 o0) (flat p1 o1) (flat p0 o0 .block a) (z +ℤ flat p0 o0 .position b -ℤ flat p0 o0 .position a) (flat p0 o0 .block b)
-      relabels K = rw (B .long, B .same, B .root-a, B .root-b, B .offset-a, B .offset-b) at (K .moves)
-
-      pub pair-down : y .term .0 < x .term .0 → Linking p o p1 o1 (x .term .0) (z +ℤ y .offset -ℤ x .offset) (y .term .0) → Equated p0 o0 p1 o1 a z b Joining.Joined
-      pair-down h K = joined (K .links) (K .long ∙ B .long) (down (rw (B .root-a, B .root-b) at h) (relabels K))
-
-pub pair-rise : {p0 : List ℕ} {o0 : List ℤ} {p : List ℕ} {o : List ℤ} {a b : ℕ} {x y : Root} → Pair p0 o0 p o a x b y → (z : ℤ) {p1 : List ℕ} {o1 : List ℤ} → x .term .0 < y .term .0 → Linking p o p1 o1 (y .term .0) (negℤ z +ℤ x .offset -ℤ y .offset) (x .term .0) → Equated p0 o0 p1 o1 a z b Joining.Joined
-pair-rise B z h K = joined (K .links) (K .long ∙ B .long) (rise (rw (B .root-a, B .root-b) at h) (relabels (swapped B) (negℤ z) K))

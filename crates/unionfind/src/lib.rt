@@ -14,7 +14,8 @@ ghost use lib.ListN.{length, getD};
 ghost use Rattle.lists.specs.Lent.{before, after};
 ghost use Rattle.labels.specs.Spread.{Within, far};
 ghost use Rattle.unionfind.specs.Forest.{Links, Near, flat, Found, Equated, Flattened, Cleared};
-ghost use Rattle.unionfind.specs.Turns.{Halved, Linking};
+ghost use Rattle.unionfind.specs.Turns.{Halved};
+ghost use Rattle.unionfind.specs.Uniting.{Linking};
 
 // The representative of a term's class, and the term's offset from it.
 pub struct Root {
@@ -92,7 +93,27 @@ fn distance(x: i64, z: i64, y: i64) -> i64
     difference(sum(z, y), x)
 }
 
-// Joins a = z + b, unless a and b are of one class: then it holds already, or cannot.
+// Joins i = d + j, for two roots.
+fn join_roots(parents: &mut [u32], offsets: &mut [i64], i: usize, d: i64, j: usize) -> Joining
+    requires { ⌜ Links (now parents) (now offsets) × ((i < length (now parents)) × (j < length (now parents))) ⌝ }
+    requires { ⌜ (getD (now parents) i 0 ≡ i) × ((getD (now parents) j 0 ≡ j) × Within (far + far + far) d) ⌝ }
+    ensures { λ r. ⌜ Equated (before parents) (before offsets) (after parents) (after offsets) i d j r ⌝ }
+{
+    if i == j {
+        if is_same(d, 0) {
+            return Joining::Held;
+        }
+        return Joining::Clashed;
+    }
+    if j < i {
+        link(parents, offsets, i, d, j);
+        return Joining::Joined;
+    }
+    link(parents, offsets, j, negated(d), i);
+    Joining::Joined
+}
+
+// Joins a = z + b. Where a and b are of one class it holds already, or cannot.
 pub fn join(parents: &mut [u32], offsets: &mut [i64], a: TermNumber, z: i64, b: TermNumber) -> Joining
     requires { ⌜ Links (now parents) (now offsets) × Near (length (now parents)) (flat (now parents) (now offsets)) ⌝ }
     requires { ⌜ (a .0 < length (now parents)) × ((b .0 < length (now parents)) × Within far z) ⌝ }
@@ -100,20 +121,7 @@ pub fn join(parents: &mut [u32], offsets: &mut [i64], a: TermNumber, z: i64, b: 
 {
     let x = find(parents, offsets, a);
     let y = find(parents, offsets, b);
-    let i = x.term.0;
-    let j = y.term.0;
-    if i == j {
-        if is_same(x.offset, sum(z, y.offset)) {
-            return Joining::Held;
-        }
-        return Joining::Clashed;
-    }
-    if j < i {
-        link(parents, offsets, i, distance(x.offset, z, y.offset), j);
-        return Joining::Joined;
-    }
-    link(parents, offsets, j, distance(y.offset, negated(z), x.offset), i);
-    Joining::Joined
+    join_roots(parents, offsets, x.term.0, distance(x.offset, z, y.offset), y.term.0)
 }
 
 // Hangs each term under its root. In rising order a term's parent hangs under its root already.

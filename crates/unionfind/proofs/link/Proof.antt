@@ -1,7 +1,7 @@
 -- `unionfind::link` meets its contract.
 use mir.Syntax.{w64}
 use mir.ValLaws.{toZ-ofZ}
-use Rattle.unionfind.specs.Turns.{linking}
+use Rattle.unionfind.specs.Uniting.{linking}
 use borrow.Author.Needs.{needs}
 use Rattle.unionfind.proofs.link.Statement.{statement}
 use Rattle.unionfind.proofs.link.Tie as tie

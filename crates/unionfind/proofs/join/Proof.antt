@@ -1,0 +1,69 @@
+-- `unionfind::join` meets its contract.
+use mathlib.Core.Path.{_∙_}
+use native.Mathlib.Omega.{arith}
+use mir.Syntax.{w64}
+use mir.ValLaws.{toZ-ofZ}
+use borrow.Author.Needs.{sfits-of}
+use Rattle.offsets.specs.Fits.{within-sum, within-difference, within-fits}
+use Rattle.unionfind.specs.Uniting.{swapped, found-both, pair-root, pair-below, pair-near, pair-equated}
+use borrow.Author.Needs.{needs}
+use Rattle.unionfind.proofs.join.Statement.{statement}
+use Rattle.unionfind.proofs.join.Tie as tie
+
+find-requires : tie.Need-find-requires
+find-requires c κs = search needs
+
+find-requires-2 : tie.Need-find-requires-2
+find-requires-2 c κs =
+    let s = c .before .before .before .before .before .before .before .before .before in
+    let a = c .before .before .before .before .before .find .ensures in
+    ((a .links, rw (a .long, a .same) (s .pre .0 .1)), rw (a .long) (s .pre .1 .1 .0))
+
+distance-requires : tie.Need-distance-requires
+distance-requires c κs =
+    let s = c .before .before .before .before .before .before .before .before .before .before .before .before .before .before .before .before .before in
+    let labels = found-both (c .before .before .before .before .before .before .before .before .before .before .before .before .before .find .ensures) (c .before .before .before .before .before .before .before .find2 .ensures) in
+    let left = pair-near labels (s .pre .0 .1) (s .pre .1 .0) in
+    let right = pair-near (swapped labels) (s .pre .0 .1) (s .pre .1 .1 .0) in
+    rw (toZ-ofZ w64 _ (within-fits (omega arith) left), toZ-ofZ w64 (s .args .z) (s .fits .z), toZ-ofZ w64 _ (within-fits (omega arith) right)) (left, (s .pre .1 .1 .1, right))
+
+join-roots-requires : tie.Need-join-roots-requires
+join-roots-requires c κs =
+    let s = c .before .before .before .before .before .before .before .before .before .before .before .before .before .before .before .before .before .before in
+    let labels = found-both (c .before .before .before .before .before .before .before .before .before .before .before .before .before .before .find .ensures) (c .before .before .before .before .before .before .before .before .find2 .ensures) in
+    let left = pair-near labels (s .pre .0 .1) (s .pre .1 .0) in
+    let right = pair-near (swapped labels) (s .pre .0 .1) (s .pre .1 .1 .0) in
+    let e = rw (toZ-ofZ w64 (s .args .z) (s .fits .z), toZ-ofZ w64 _ (within-fits (omega arith) right), toZ-ofZ w64 _ (within-fits (omega arith) left)) at (c .distance .ensures) in (
+      (labels .links, (pair-below labels (s .pre .1 .0), pair-below (swapped labels) (s .pre .1 .1 .0))),
+      (
+        pair-root labels,
+        (pair-root (swapped labels), rw (toZ-ofZ w64 _ (sfits-of (c .distance .ok)), e) (within-difference (within-sum (s .pre .1 .1 .1) right) left)),
+      ),
+    )
+
+same-length : tie.Need-same-length
+same-length c = search needs
+
+same-length-2 : tie.Need-same-length-2
+same-length-2 c = search needs
+
+returns : tie.Need-returns
+returns c =
+    let s = c .before .before .before .before .before .before .before .before .before .before .before .before .before .before .before .before .before .before .before .before .before .before in
+    let labels = found-both (c .before .before .before .before .before .before .before .before .before .before .before .before .before .before .before .before .before .before .find .ensures) (c .before .before .before .before .before .before .before .before .before .before .before .before .find2 .ensures) in
+    let left = pair-near labels (s .pre .0 .1) (s .pre .1 .0) in
+    let right = pair-near (swapped labels) (s .pre .0 .1) (s .pre .1 .1 .0) in
+    let e = rw (toZ-ofZ w64 (s .args .z) (s .fits .z), toZ-ofZ w64 _ (within-fits (omega arith) right), toZ-ofZ w64 _ (within-fits (omega arith) left)) at (c .before .before .before .before .distance .ensures) in
+    pair-equated labels (s .args .z) (toZ-ofZ w64 _ (sfits-of (c .before .before .before .before .distance .ok)) ∙ e) (c .before .before .before .join-roots .ensures)
+
+pub join-spec : {M : Type 1} → statement M
+join-spec =
+    tie.close
+    (tie.spec
+    find-requires
+    find-requires-2
+    distance-requires
+    join-roots-requires
+    same-length
+    same-length-2
+    returns)
