@@ -152,11 +152,22 @@ module _ {p : List ℕ} {o : List ℤ} (L : Links p o) where
 
   -- the links determine the labelling
   pub follows-flat : (P : Placement) → Follows p o P → flat p o ≡ P
-  follows-flat P F = same-placement (flat p o) P (by-links (λ t. flat p o .block t ≡ P .block t) (λ t e. G .root-block t e ∙ sym (F .root-block t e)) (λ t l e. G .link-block t ∙ e ∙ sym (F .link-block t)))
-      (by-links (λ t. flat p o .position t ≡ P .position t) (λ t e. G .root-position t e ∙ sym (F .root-position t e)) (λ t l e. G .link-position t ∙ ap (λ (z : ℤ). z +ℤ getD o t (pos 0)) e ∙ sym (F .link-position t)))
+  follows-flat P F = same-placement (flat p o) P blocks positions
     where
       G : Follows p o (flat p o)
       G = flat-follows
+
+      blocks : (t : ℕ) → flat p o .block t ≡ P .block t
+      blocks =
+          by-links (λ t. flat p o .block t ≡ P .block t)
+          (λ t e. G .root-block t e ∙ sym (F .root-block t e))
+          (λ t l e. G .link-block t ∙ e ∙ sym (F .link-block t))
+
+      positions : (t : ℕ) → flat p o .position t ≡ P .position t
+      positions =
+          by-links (λ t. flat p o .position t ≡ P .position t)
+          (λ t e. G .root-position t e ∙ sym (F .root-position t e))
+          (λ t l e. G .link-position t ∙ ap (λ (z : ℤ). z +ℤ getD o t (pos 0)) e ∙ sym (F .link-position t))
 
   -- the root of a class has the lowest number in it
   pub flat-lowest : (t : ℕ) → flat p o .block t ≤ t

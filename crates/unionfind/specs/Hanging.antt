@@ -114,8 +114,18 @@ module _ {p : List ℕ} {o : List ℤ} (L : Links p o) (t v : ℕ) (d : ℤ) (ht
     along : (s : ℕ) → s ≢ t → Moved P Q t d v (getD p s 0) → Moved P Q t d v s
     along s m (moved e b q) =
         let u = getD p s 0 in
+        let z = getD o s (pos 0) in
         moved (G .link-block s ∙ e) (rw (parent-other s m) at (H .link-block s) ∙ b)
-        (omega (linear, q, G .link-position s, rw (parent-other s m, offset-other s m) at (H .link-position s), value (‹ P .position u › ⊕ ‹ d ›), value (‹ P .position u › ⊕ ‹ getD o s (pos 0) ›), value (‹ Q .position u › ⊕ ‹ getD o s (pos 0) ›), value (‹ P .position s › ⊕ ‹ d ›)))
+        (omega (
+          linear,
+          q,
+          G .link-position s,
+          rw (parent-other s m, offset-other s m) at (H .link-position s),
+          value (‹ P .position u › ⊕ ‹ d ›),
+          value (‹ P .position u › ⊕ ‹ z ›),
+          value (‹ Q .position u › ⊕ ‹ z ›),
+          value (‹ P .position s › ⊕ ‹ d ›),
+        ))
     along s m (kept k b q) =
         kept (λ e. k (sym (G .link-block s) ∙ e))
         (rw (parent-other s m) at (H .link-block s) ∙ b ∙ sym (G .link-block s))
@@ -124,9 +134,9 @@ module _ {p : List ℕ} {o : List ℤ} (L : Links p o) (t v : ℕ) (d : ℤ) (ht
     pub hung-moves : {n : ℕ} → Relabelled n P Q t d v
     hung-moves = relabelled (by-links hung-links (Moved P Q t d v)
         (λ s e. kept (λ f. not-here s e (sym (G .root-block s (still-root s e)) ∙ f))
-            (H .root-block s e ∙ sym (G .root-block s (still-root s e)))
-            (H .root-position s e ∙ sym (G .root-position s (still-root s e))))
+        (H .root-block s e ∙ sym (G .root-block s (still-root s e)))
+        (H .root-position s e ∙ sym (G .root-position s (still-root s e))))
         (λ s l M. ⊎-elim
-            (λ (e : s ≡ t). rw e moved-root)
-            (λ (m : s ≢ t). along s m (rw (parent-other s m) at M))
-            (same-or-not s t)))
+        (λ (e : s ≡ t). rw e moved-root)
+        (λ (m : s ≢ t). along s m (rw (parent-other s m) at M))
+        (same-or-not s t)))

@@ -85,7 +85,13 @@ inside-or-past t n = go (ltb t n) refl
     go false e = inr (omega (arith, ltb-false t n e))
 
 -- columns whose labels are fresh are links
-pub cleared : {p0 : List ℕ} {o0 : List ℤ} {p : List ℕ} {o : List ℤ} {t : ℕ} → length o0 ≡ length p0 → length p0 ≤ 512 → length p0 ≤ t → Clearing p0 o0 (length p0) t p o → Cleared p0 o0 p o
+pub cleared :
+    {p0 : List ℕ} {o0 : List ℤ} {p : List ℕ} {o : List ℤ} {t : ℕ} →
+    length o0 ≡ length p0 →
+    length p0 ≤ 512 →
+    length p0 ≤ t →
+    Clearing p0 o0 (length p0) t p o →
+    Cleared p0 o0 p o
 cleared {p0} {o0} {p} {o} {t} same few past C = record {
   links = links;
   long = C .long-reps;

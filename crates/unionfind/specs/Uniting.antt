@@ -1,7 +1,7 @@
 -- Two roots joined, and what that says of the terms whose roots they are.
 use Prim.Native.Nat.{ℕ, _<_, _≤_}
 use mathlib.Core.Path.{_≡_, refl, sym, _∙_, ap}
-use mathlib.Core.Logic.{_≢_}
+use mathlib.Core.Logic.{_≢_, _↔_}
 use mathlib.Core.List.{List}
 use native.Mathlib.Omega.{arith}
 use lib.IntN.{ℤ, pos, negℤ, _+ℤ_, _-ℤ_}
@@ -22,7 +22,14 @@ pub record Linking (p0 : List ℕ) (o0 : List ℤ) (p : List ℕ) (o : List ℤ)
   pub long : length p ≡ length p0
   pub moves : Relabelled (length p0) (flat p0 o0) (flat p o) from d to
 
-pub linking : {p : List ℕ} {o : List ℤ} (from : ℕ) (d : ℤ) (to : ℕ) → Links p o → from < length p → to < from → getD p from 0 ≡ from → getD p to 0 ≡ to → Linking p o (set p from to) (set o from d) from d to
+pub linking :
+    {p : List ℕ} {o : List ℤ} (from : ℕ) (d : ℤ) (to : ℕ) →
+    Links p o →
+    from < length p →
+    to < from →
+    getD p from 0 ≡ from →
+    getD p to 0 ≡ to →
+    Linking p o (set p from to) (set o from d) from d to
 linking {p} from d to L h lower ef et = record {
   links = hung-links L from to d h lower;
   long = length-set p from to;
@@ -39,7 +46,11 @@ pub record Pair (p0 : List ℕ) (o0 : List ℤ) (p : List ℕ) (o : List ℤ) (a
   pub root-b : y .term .0 ≡ flat p0 o0 .block b
   pub offset-b : y .offset ≡ flat p0 o0 .position b
 
-pub found-both : {p0 : List ℕ} {o0 : List ℤ} {p1 : List ℕ} {o1 : List ℤ} {p : List ℕ} {o : List ℤ} {a b : ℕ} {x y : Root} → Found p0 o0 p1 o1 a x → Found p1 o1 p o b y → Pair p0 o0 p o a x b y
+pub found-both :
+    {p0 : List ℕ} {o0 : List ℤ} {p1 : List ℕ} {o1 : List ℤ} {p : List ℕ} {o : List ℤ} {a b : ℕ} {x y : Root} →
+    Found p0 o0 p1 o1 a x →
+    Found p1 o1 p o b y →
+    Pair p0 o0 p o a x b y
 found-both A B = record {
   links = B .links;
   same = B .same ∙ A .same;
@@ -91,11 +102,16 @@ record Between (P : Placement) (a : ℕ) (z : ℤ) (b i : ℕ) (d : ℤ) (j : �
 module _ {P : Placement} {a : ℕ} {z : ℤ} {b i : ℕ} {d : ℤ} {j : ℕ} (B : Between P a z b i d j) where
   forth : d +ℤ P .position j -ℤ P .position i ≡ z +ℤ P .position b -ℤ P .position a
   forth =
-      omega (linear, B .distance, B .left-zero, B .right-zero, value (# 0), value (‹ d › ⊕ ‹ P .position j › ⊖ ‹ P .position i ›), value (‹ z › ⊕ ‹ P .position b › ⊖ ‹ P .position a ›))
+      let v = value (‹ d › ⊕ ‹ P .position j › ⊖ ‹ P .position i ›) in
+      let w = value (‹ z › ⊕ ‹ P .position b › ⊖ ‹ P .position a ›) in
+      omega (linear, B .distance, B .left-zero, B .right-zero, value (# 0), v, w)
 
   back : negℤ d +ℤ P .position i -ℤ P .position j ≡ negℤ z +ℤ P .position a -ℤ P .position b
   back =
-      omega (linear, B .distance, B .left-zero, B .right-zero, value (# 0), value (⊝ ‹ d › ⊕ ‹ P .position i › ⊖ ‹ P .position j ›), value (‹ z › ⊕ ‹ P .position b › ⊖ ‹ P .position a ›), value (⊝ ‹ z › ⊕ ‹ P .position a › ⊖ ‹ P .position b ›))
+      let v = value (⊝ ‹ d › ⊕ ‹ P .position i › ⊖ ‹ P .position j ›) in
+      let w = value (‹ z › ⊕ ‹ P .position b › ⊖ ‹ P .position a ›) in
+      let x = value (⊝ ‹ z › ⊕ ‹ P .position a › ⊖ ‹ P .position b ›) in
+      omega (linear, B .distance, B .left-zero, B .right-zero, value (# 0), v, w, x)
 
   joined-between : {n : ℕ} {Q : Placement} → Joined n P Q i d j → Joined n P Q a z b
   joined-between (down h R) = down (rw (B .left, B .right) at h) (rw (B .left, forth, B .right) at R)
@@ -104,13 +120,14 @@ module _ {P : Placement} {a : ℕ} {z : ℤ} {b i : ℕ} {d : ℤ} {j : ℕ} (B 
   class-between : P .block i ≡ P .block j → P .block a ≡ P .block b
   class-between e = sym (B .left) ∙ e ∙ B .right
 
-  offset-between : P .position i ≡ d +ℤ P .position j → P .position a ≡ z +ℤ P .position b
-  offset-between e =
-      omega (linear, e, B .distance, B .left-zero, B .right-zero, value (# 0), value (‹ d › ⊕ ‹ P .position j ›), value (‹ z › ⊕ ‹ P .position b ›), value (‹ z › ⊕ ‹ P .position b › ⊖ ‹ P .position a ›))
-
-  between-offset : P .position a ≡ z +ℤ P .position b → P .position i ≡ d +ℤ P .position j
-  between-offset e =
-      omega (linear, e, B .distance, B .left-zero, B .right-zero, value (# 0), value (‹ d › ⊕ ‹ P .position j ›), value (‹ z › ⊕ ‹ P .position b ›), value (‹ z › ⊕ ‹ P .position b › ⊖ ‹ P .position a ›))
+  offset-between : (P .position i ≡ d +ℤ P .position j) ↔ (P .position a ≡ z +ℤ P .position b)
+  offset-between =
+      let v = value (‹ d › ⊕ ‹ P .position j ›) in
+      let w = value (‹ z › ⊕ ‹ P .position b › ⊖ ‹ P .position a ›) in
+      let x = value (‹ z › ⊕ ‹ P .position b ›) in (
+        λ e. omega (linear, e, B .distance, B .left-zero, B .right-zero, value (# 0), v, w, x),
+        λ e. omega (linear, e, B .distance, B .left-zero, B .right-zero, value (# 0), v, w, x),
+      )
 
 -- what joining the roots finds, joining a and b finds
 module _ {p0 : List ℕ} {o0 : List ℤ} {p : List ℕ} {o : List ℤ} {a b : ℕ} {x y : Root} (B : Pair p0 o0 p o a x b y) {d : ℤ} (z : ℤ) (ed : d ≡ z +ℤ y .offset -ℤ x .offset) where
@@ -128,10 +145,10 @@ module _ {p0 : List ℕ} {o0 : List ℤ} {p : List ℕ} {o : List ℤ} {a b : �
   pair-equated (held K l e h) =
       held K (l ∙ B .long) (e ∙ B .same) (record {
         same-block = class-between between (rw (B .same) at (h .same-block));
-        at-offset = offset-between between (rw (B .same) at (h .at-offset));
+        at-offset = offset-between between .0 (rw (B .same) at (h .at-offset));
       })
   pair-equated (clashed K l e s m) =
-      clashed K (l ∙ B .long) (e ∙ B .same) (class-between between (rw (B .same) at s)) (λ f. m (rw (B .same) (between-offset between f)))
+      clashed K (l ∙ B .long) (e ∙ B .same) (class-between between (rw (B .same) at s)) (λ f. m (rw (B .same) (offset-between between .1 f)))
 
 -- what joining i = d + j finds, for two roots
 module _ {p : List ℕ} {o : List ℤ} (L : Links p o) {i j : ℕ} (d : ℤ) (ri : getD p i 0 ≡ i) (rj : getD p j 0 ≡ j) where
@@ -164,6 +181,17 @@ module _ {p : List ℕ} {o : List ℤ} (L : Links p o) {i j : ℕ} (d : ℤ) (ri
     pub roots-down : j < i → Linking p o p1 o1 i d j → Equated p o p1 o1 i d j Joining.Joined
     roots-down h K = joined (K .links) (K .long) (down (rw (block-i, block-j) h) (rw (block-i, block-j, own d) (K .moves)))
 
-pub roots-rise : {p : List ℕ} {o : List ℤ} → Links p o → {i j : ℕ} (d : ℤ) → getD p i 0 ≡ i → getD p j 0 ≡ j → {p1 : List ℕ} {o1 : List ℤ} → i < j → Linking p o p1 o1 j (negℤ d) i → Equated p o p1 o1 i d j Joining.Joined
+pub roots-rise :
+    {p : List ℕ} {o : List ℤ} →
+    Links p o →
+    {i j : ℕ} (d : ℤ) →
+    getD p i 0 ≡ i →
+    getD p j 0 ≡ j →
+    {p1 : List ℕ} {o1 : List ℤ} →
+    i < j →
+    Linking p o p1 o1 j (negℤ d) i →
+    Equated p o p1 o1 i d j Joining.Joined
 roots-rise L d ri rj h K =
-    joined (K .links) (K .long) (rise (rw (block-i L d ri rj, block-j L d ri rj) h) (rw (block-i L d ri rj, block-j L d ri rj, own L d rj ri (negℤ d)) (K .moves)))
+    let bi = block-i L d ri rj in
+    let bj = block-j L d ri rj in
+    joined (K .links) (K .long) (rise (rw (bi, bj) h) (rw (bi, bj, own L d rj ri (negℤ d)) (K .moves)))

@@ -114,14 +114,26 @@ fn join_roots(parents: &mut [u32], offsets: &mut [i64], i: usize, d: i64, j: usi
 }
 
 // Joins a = z + b. Where a and b are of one class it holds already, or cannot.
-pub fn join(parents: &mut [u32], offsets: &mut [i64], a: TermNumber, z: i64, b: TermNumber) -> Joining
+pub fn join(
+    parents: &mut [u32],
+    offsets: &mut [i64],
+    a: TermNumber,
+    z: i64,
+    b: TermNumber,
+) -> Joining
     requires { ⌜ Links (now parents) (now offsets) × Near (length (now parents)) (flat (now parents) (now offsets)) ⌝ }
     requires { ⌜ (a .0 < length (now parents)) × ((b .0 < length (now parents)) × Within far z) ⌝ }
     ensures { λ r. ⌜ Equated (before parents) (before offsets) (after parents) (after offsets) (a .0) z (b .0) r ⌝ }
 {
     let x = find(parents, offsets, a);
     let y = find(parents, offsets, b);
-    join_roots(parents, offsets, x.term.0, distance(x.offset, z, y.offset), y.term.0)
+    join_roots(
+        parents,
+        offsets,
+        x.term.0,
+        distance(x.offset, z, y.offset),
+        y.term.0,
+    )
 }
 
 // Hangs each term under its root. In rising order a term's parent hangs under its root already.

@@ -51,17 +51,21 @@ slice-copy-out-sum c = omega arith
 
 sum-requires : tie.Need-sum-requires Inv-loop μ-loop
 sum-requires c κs =
-    let s = c .before .before .before .before .before .before .before .before .before .before .before in
+    let halved = c .before .before .before .before in
+    let l = halved .before .before .before .before .before in
+    let s = l .before .before in
     rw (toZ-ofZ w64 _ (sfits-of (c .sum-arg .given)))
-    (within-fits (omega arith) (finding-within (c .before .before .before .before .before .before .before .before .before .loop .inv) (c .before .before .before .before .halve .ensures) (s .pre .0 .1) (s .pre .1)))
+    (within-fits (omega arith) (finding-within (l .loop .inv) (halved .halve .ensures) (s .pre .0 .1) (s .pre .1)))
 
 loop-less : tie.Need-loop-less Inv-loop μ-loop
 loop-less c = c .before .before .before .before .before .halve .ensures .lower
 
 loop-again : tie.Need-loop-again Inv-loop μ-loop
 loop-again c =
+    let halved = c .before .before .before .before .before in
+    let l = halved .before .before .before .before .before in
     let e = rw (toZ-ofZ w64 _ (sfits-of (c .before .sum-arg .given))) at (c .sum .ensures) in
-    finding-next (c .before .before .before .before .before .before .before .before .before .before .loop .inv) (c .before .before .before .before .before .halve .ensures) (toZ-ofZ w64 _ (sfits-of (c .sum .ok)) ∙ e)
+    finding-next (l .loop .inv) (halved .halve .ensures) (toZ-ofZ w64 _ (sfits-of (c .sum .ok)) ∙ e)
 
 pub find-spec : {M : Type 1} → statement M
 find-spec =

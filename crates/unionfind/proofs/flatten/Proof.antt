@@ -46,7 +46,11 @@ loop-less-2 : tie.Need-loop-less-2 Inv-loop μ-loop
 loop-less-2 c = omega arith
 
 loop-again-2 : tie.Need-loop-again-2 Inv-loop μ-loop
-loop-again-2 c = flattening-next (c .before .before .before .before .before .before .before .before .before .loop .inv) (omega arith) (c .before .before .before .before .before .before .if1 .left) (c .before .before .before .halve .ensures)
+loop-again-2 c =
+    let halved = c .before .before .before in
+    let tested = halved .before .before .before in
+    let l = tested .before .before .before in
+    flattening-next (l .loop .inv) (omega arith) (tested .if1 .left) (halved .halve .ensures)
 
 same-length : tie.Need-same-length Inv-loop μ-loop
 same-length c = omega arith

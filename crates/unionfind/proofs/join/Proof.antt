@@ -21,24 +21,31 @@ find-requires-2 c κs =
 
 distance-requires : tie.Need-distance-requires
 distance-requires c κs =
-    let s = c .before .before .before .before .before .before .before .before .before .before .before .before .before .before .before .before .before in
-    let labels = found-both (c .before .before .before .before .before .before .before .before .before .before .before .before .before .find .ensures) (c .before .before .before .before .before .before .before .find2 .ensures) in
+    let second = c .before .before .before .before .before .before .before in
+    let first = second .before .before .before .before .before .before in
+    let s = first .before .before .before .before in
+    let labels = found-both (first .find .ensures) (second .find2 .ensures) in
     let left = pair-near labels (s .pre .0 .1) (s .pre .1 .0) in
     let right = pair-near (swapped labels) (s .pre .0 .1) (s .pre .1 .1 .0) in
-    rw (toZ-ofZ w64 _ (within-fits (omega arith) left), toZ-ofZ w64 (s .args .z) (s .fits .z), toZ-ofZ w64 _ (within-fits (omega arith) right)) (left, (s .pre .1 .1 .1, right))
+    let ex = toZ-ofZ w64 _ (within-fits (omega arith) left) in
+    let ey = toZ-ofZ w64 _ (within-fits (omega arith) right) in
+    let ez = toZ-ofZ w64 (s .args .z) (s .fits .z) in
+    rw (ex, ez, ey) (left, (s .pre .1 .1 .1, right))
 
 join-roots-requires : tie.Need-join-roots-requires
 join-roots-requires c κs =
-    let s = c .before .before .before .before .before .before .before .before .before .before .before .before .before .before .before .before .before .before in
-    let labels = found-both (c .before .before .before .before .before .before .before .before .before .before .before .before .before .before .find .ensures) (c .before .before .before .before .before .before .before .before .find2 .ensures) in
+    let second = c .before .before .before .before .before .before .before .before in
+    let first = second .before .before .before .before .before .before in
+    let s = first .before .before .before .before in
+    let labels = found-both (first .find .ensures) (second .find2 .ensures) in
     let left = pair-near labels (s .pre .0 .1) (s .pre .1 .0) in
     let right = pair-near (swapped labels) (s .pre .0 .1) (s .pre .1 .1 .0) in
-    let e = rw (toZ-ofZ w64 (s .args .z) (s .fits .z), toZ-ofZ w64 _ (within-fits (omega arith) right), toZ-ofZ w64 _ (within-fits (omega arith) left)) at (c .distance .ensures) in (
+    let ex = toZ-ofZ w64 _ (within-fits (omega arith) left) in
+    let ey = toZ-ofZ w64 _ (within-fits (omega arith) right) in
+    let ez = toZ-ofZ w64 (s .args .z) (s .fits .z) in
+    let e = toZ-ofZ w64 _ (sfits-of (c .distance .ok)) ∙ rw (ez, ey, ex) at (c .distance .ensures) in (
       (labels .links, (pair-below labels (s .pre .1 .0), pair-below (swapped labels) (s .pre .1 .1 .0))),
-      (
-        pair-root labels,
-        (pair-root (swapped labels), rw (toZ-ofZ w64 _ (sfits-of (c .distance .ok)), e) (within-difference (within-sum (s .pre .1 .1 .1) right) left)),
-      ),
+      (pair-root labels, (pair-root (swapped labels), rw e (within-difference (within-sum (s .pre .1 .1 .1) right) left))),
     )
 
 same-length : tie.Need-same-length
@@ -49,12 +56,18 @@ same-length-2 c = search needs
 
 returns : tie.Need-returns
 returns c =
-    let s = c .before .before .before .before .before .before .before .before .before .before .before .before .before .before .before .before .before .before .before .before .before .before in
-    let labels = found-both (c .before .before .before .before .before .before .before .before .before .before .before .before .before .before .before .before .before .before .find .ensures) (c .before .before .before .before .before .before .before .before .before .before .before .before .find2 .ensures) in
+    let second = c .before .before .before .before .before .before .before .before .before .before .before .before in
+    let first = second .before .before .before .before .before .before in
+    let s = first .before .before .before .before in
+    let labels = found-both (first .find .ensures) (second .find2 .ensures) in
     let left = pair-near labels (s .pre .0 .1) (s .pre .1 .0) in
     let right = pair-near (swapped labels) (s .pre .0 .1) (s .pre .1 .1 .0) in
-    let e = rw (toZ-ofZ w64 (s .args .z) (s .fits .z), toZ-ofZ w64 _ (within-fits (omega arith) right), toZ-ofZ w64 _ (within-fits (omega arith) left)) at (c .before .before .before .before .distance .ensures) in
-    pair-equated labels (s .args .z) (toZ-ofZ w64 _ (sfits-of (c .before .before .before .before .distance .ok)) ∙ e) (c .before .before .before .join-roots .ensures)
+    let ex = toZ-ofZ w64 _ (within-fits (omega arith) left) in
+    let ey = toZ-ofZ w64 _ (within-fits (omega arith) right) in
+    let ez = toZ-ofZ w64 (s .args .z) (s .fits .z) in
+    let d = c .before .before .before .before .distance in
+    let e = toZ-ofZ w64 _ (sfits-of (d .ok)) ∙ rw (ez, ey, ex) at (d .ensures) in
+    pair-equated labels (s .args .z) e (c .before .before .before .join-roots .ensures)
 
 pub join-spec : {M : Type 1} → statement M
 join-spec =
