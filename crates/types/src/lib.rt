@@ -2,6 +2,30 @@
 ghost use mathlib.Core.Path.{_≡_};
 ghost use Rattle.types.specs.Numbers.{refusalNumber};
 
+// The kinds of records, as in the lines of hexadecimal.
+pub const VARIABLE: u64 = 0x01;
+
+pub const AUXILIARY: u64 = 0x02;
+
+pub const DEREF: u64 = 0x03;
+
+pub const EQUALITY: u64 = 0x11;
+
+pub const DISEQUALITY: u64 = 0x12;
+
+pub const BLOCK_DISEQUALITY: u64 = 0x13;
+
+pub const QUESTION: u64 = 0x21;
+
+// The most terms, propositions and questions.
+pub const MOST: usize = 512;
+
+// Atoms are numbered below this.
+pub const ATOMS: u64 = 65536;
+
+// Offsets go from the negation of this up to one less than this.
+pub const OFFSETS: i64 = 2147483648;
+
 // The verdict on an accepted set.
 pub enum Verdict {
     Satisfiable,
