@@ -41,7 +41,7 @@ flat p o = record { block = λ t. climb t p t; position = λ t. rise t p o t }
 pub record Near (n : ℕ) (P : Placement) : Type 0 where
   pub near : {t : ℕ} → t < n → Within far (P .position t)
 
--- the columns p0 and o0 stand for the same labelling as p and o, and r is the label of t
+-- the links stand for the labelling that they stood for, and r is the label of t
 pub record Found (p0 : List ℕ) (o0 : List ℤ) (p : List ℕ) (o : List ℤ) (t : ℕ) (r : Root) : Type 0 where
   pub links : Links p o
   pub same : flat p o ≡ flat p0 o0
@@ -60,6 +60,18 @@ pub data Equated (p0 : List ℕ) (o0 : List ℤ) (p : List ℕ) (o : List ℤ) (
       flat p0 o0 .block a ≡ flat p0 o0 .block b →
       flat p0 o0 .position a ≢ z +ℤ flat p0 o0 .position b →
       Equated p0 o0 p o a z b Joining.Clashed
+
+-- in each case the links stay such
+module _ {p0 : List ℕ} {o0 : List ℤ} {p : List ℕ} {o : List ℤ} {a : ℕ} {z : ℤ} {b : ℕ} where
+  pub equated-links : {r : Joining} → Equated p0 o0 p o a z b r → Links p o
+  equated-links (joined L l J) = L
+  equated-links (held L l e h) = L
+  equated-links (clashed L l e s m) = L
+
+  pub equated-long : {r : Joining} → Equated p0 o0 p o a z b r → length p ≡ length p0
+  equated-long (joined L l J) = l
+  equated-long (held L l e h) = l
+  equated-long (clashed L l e s m) = l
 
 -- each link leads to the root: the columns hold the labels
 pub record Flattened (p0 : List ℕ) (o0 : List ℤ) (p : List ℕ) (o : List ℤ) : Type 0 where
