@@ -28,6 +28,14 @@ module _ {A : Type 0} where
   pub from-zero : (f : ℕ → A) (n k : ℕ) (d : A) → k < n → getD (tabulate f 0 n) k d ≡ f k
   from-zero f n k d h = let s : 0 + k ≡ k = omega arith in rw s at (tabulate-at f 0 n k d h)
 
+  pub tabulate-ext : (f g : ℕ → A) (k n : ℕ) → ((j : ℕ) → j < k + n → f j ≡ g j) → tabulate f k n ≡ tabulate g k n
+  unfolding tabulate
+  tabulate-ext f g k zero same = refl
+  tabulate-ext f g k (suc n) same =
+      let here = same k (omega arith) in
+      let rest = tabulate-ext f g (suc k) n (λ j h. same j (omega arith)) in
+      rw (here, rest)
+
   -- the items that are marked
   unfoldable pub select : List Bool → List A → List A
   select [] l = []

@@ -1,7 +1,7 @@
 -- The refusals of the three tables in their order: 1, 2, 3, then 8 for a table that has fewer rows than its count, then the records.
-use Prim.Native.Nat.{ℕ, _<_, _≤_}
+use Prim.Native.Nat.{ℕ, _≤_}
 use mathlib.Core.Path.{_≡_}
-use mathlib.Core.Bool.{Bool, true, false, _||_}
+use mathlib.Core.Bool.{_||_}
 use mathlib.Core.List.{List}
 use mathlib.Core.Option.{Option, none, some}
 use lib.Dec.{ltb}
@@ -11,7 +11,6 @@ use Rattle.lists.specs.Booleans.{or-false}
 use Rattle.types.specs.declared.Refusal.{Refusal}
 use Rattle.types.specs.declared.Refusal.the-variants.{TooManyTerms, TooManyPropositions, TooManyQuestions, TooShort}
 use Rattle.types.specs.declared.Acceptance.{Acceptance}
-use Rattle.tables.specs.Limits.{most}
 use Rattle.tables.specs.Rows.{Row, termAt, propositionAt, questionAt}
 use Rattle.tables.specs.Refusals.{Fault, orElse, faultIf}
 use Rattle.tables.specs.RefusalLaws.{orElse-none, faultIf-none, none-at}
@@ -34,20 +33,34 @@ pub record Tables : Type 0 where
   pub propositions : Table
   pub questions : Table
 
+-- by counts and rows
+abbrev pub tablesOf : ℕ → List Row → ℕ → List Row → ℕ → List Row → Tables
+tablesOf n terms m propositions q questions = record {
+  terms = record { count = n; rows = terms };
+  propositions = record { count = m; rows = propositions };
+  questions = record { count = q; rows = questions };
+}
+
 -- more records than the limit
 abbrev pub countFault : ℕ → Refusal → ℕ → Option Fault
 countFault limit r n = faultIf (ltb limit n) r limit
 
-abbrev pub tableShort : Table → Bool
-tableShort T = ltb (length (T .rows)) (T .count)
+-- 1, 2, 3 and 8 of counts and lengths
+unfoldable pub lengthsFault : ℕ → (n terms m propositions q questions : ℕ) → Option Fault
+lengthsFault limit n terms m propositions q questions =
+    orElse (countFault limit TooManyTerms n)
+    (orElse (countFault limit TooManyPropositions m)
+    (orElse (countFault limit TooManyQuestions q) (faultIf (ltb terms n || (ltb propositions m || ltb questions q)) TooShort 0)))
 
--- 1, 2, 3 and 8
-unfoldable pub sizesFault : ℕ → Tables → Option Fault
+abbrev pub sizesFault : ℕ → Tables → Option Fault
 sizesFault limit T =
-    orElse (countFault limit TooManyTerms (T .terms .count))
-    (orElse (countFault limit TooManyPropositions (T .propositions .count))
-    (orElse (countFault limit TooManyQuestions (T .questions .count))
-    (faultIf (tableShort (T .terms) || (tableShort (T .propositions) || tableShort (T .questions))) TooShort 0)))
+    lengthsFault limit
+    (T .terms .count)
+    (length (T .terms .rows))
+    (T .propositions .count)
+    (length (T .propositions .rows))
+    (T .questions .count)
+    (length (T .questions .rows))
 
 -- 4, 5, 6, 7 and 9
 unfoldable pub recordsFault : Tables → Option Fault
@@ -74,7 +87,7 @@ pub record Accepted (T : Tables) : Type 0 where
   pub questions : AcceptedQuestions (T .terms .count) (T .questions .count) (questionAt (T .questions .rows))
 
 pub sized : (limit : ℕ) (T : Tables) → sizesFault limit T ≡ none → Sized limit T
-unfolding sizesFault
+unfolding lengthsFault
 sized limit T e =
     let a = orElse-none _ _ e in
     let b = orElse-none _ _ (a .1) in

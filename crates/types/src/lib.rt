@@ -117,6 +117,13 @@ pub struct PropositionNumber(pub usize);
 // A number in the table of questions.
 pub struct QuestionNumber(pub usize);
 
+// A refusal at a place.
+pub fn refuse(refusal: Refusal, place: usize) -> Acceptance
+    ensures { λ a. ⌜ a ≡ Acceptance.Refused (record { refusal = refusal; place = place }) ⌝ }
+{
+    Acceptance::Refused(Fault { refusal, place })
+}
+
 // The number of a refusal.
 pub fn refusal_number(r: Refusal) -> u8
     ensures { λ k. ⌜ k ≡ refusalNumber r ⌝ }

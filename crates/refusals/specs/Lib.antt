@@ -1,0 +1,5 @@
+-- How loops find the first fault of a table.
+pub mod FirstFault
+pub mod Fields
+pub mod Terms
+pub mod Parts
