@@ -1,0 +1,116 @@
+-- Joins of dereferences of one address, one after another, and how they end.
+use Prim.Native.Nat.{ℕ, _+_, _<_}
+use mathlib.Core.Path.{_≡_, refl, sym, _∙_}
+use mathlib.Core.Logic.{_≢_}
+use mathlib.Core.Bool.{Bool, true, false}
+use mathlib.Core.List.{List}
+use native.Mathlib.Omega.{arith}
+use lib.IntN.{ℤ, pos, _+ℤ_}
+use lib.ListN.{length}
+use Rattle.integers.specs.Linear.{value, #_}
+use Rattle.rules.specs.Assignments.{Placement, Holds}
+use Rattle.labels.specs.Spread.{Within}
+use Rattle.labels.specs.View.{view}
+use Rattle.labels.specs.Joins.{Joined, joined-keeps}
+use Rattle.tables.specs.Records.{TermRecord, derefKind}
+use Rattle.unionfind.specs.declared.Root.{Root}
+use Rattle.unionfind.specs.Forest.{Links, flat}
+use Rattle.lastlook.specs.Addresses.{SameAddress}
+use Rattle.consistency.specs.declared.Met.{Met}
+use Rattle.consistency.specs.Labels.{Labels, Unchanged, unchanged-labels, joined-labels}
+
+pub zero-within : {B : ℕ} → Within B (pos 0)
+zero-within = record { above = omega (arith, value (# 0)); below = omega (arith, value (# 0)) }
+
+-- the class and the address that the record reads
+pub record Addressed (p0 : List ℕ) (o0 : List ℤ) (p : List ℕ) (o : List ℤ) (r : TermRecord) (at : Root) : Type 0 where
+  pub unchanged : Unchanged p0 o0 p o
+  pub class : at .term .0 ≡ flat p0 o0 .block (r .number)
+  pub address : at .offset ≡ r .offset +ℤ flat p0 o0 .position (r .number)
+
+-- whether y is a dereference that reads an address
+pub data Reads (rec : ℕ → TermRecord) (p0 : List ℕ) (o0 : List ℤ) (p : List ℕ) (o : List ℤ) (y : ℕ) (at : Root) : Bool → Type 0 where
+  it-does :
+      Unchanged p0 o0 p o →
+      rec y .kind ≡ derefKind →
+      at .term .0 ≡ flat p0 o0 .block (rec y .number) →
+      at .offset ≡ rec y .offset +ℤ flat p0 o0 .position (rec y .number) →
+      Reads rec p0 o0 p o y at true
+  does-not : Unchanged p0 o0 p o → Reads rec p0 o0 p o y at false
+
+module _ (n : ℕ) (rec : ℕ → TermRecord) where
+  pub data Chain (P : Placement) : Placement → Type 0 where
+    start : Chain P P
+    more : {Q R : Placement} {x y : ℕ} → Chain P Q → x < n → y < n → SameAddress rec Q x y → Joined n Q R x (pos 0) y → Chain P R
+
+  pub chain-append : {P Q R : Placement} → Chain P Q → Chain Q R → Chain P R
+  chain-append c start = c
+  chain-append c (more d hx hy s J) = more (chain-append c d) hx hy s J
+
+  -- what held holds
+  pub chain-keeps : {P Q : Placement} → Chain P Q → {t u : ℕ} {z : ℤ} → t < n → u < n → Holds P t z u → Holds Q t z u
+  chain-keeps start ht hu h = h
+  chain-keeps (more {Q = Q} {R = R} {x = x} {y = y} c hx hy s J) ht hu h = joined-keeps n Q R x (pos 0) y hx hy J ht hu (chain-keeps c ht hu h)
+
+  -- two dereferences of one address and one class, at different offsets
+  pub record Clash (P : Placement) (x y : ℕ) : Type 0 where
+    pub below-x : x < n
+    pub below-y : y < n
+    pub same : SameAddress rec P x y
+    pub together : P .block x ≡ P .block y
+    pub unequal : Holds P x (pos 0) y → ⊥
+
+  -- all dereferences of one address agree
+  abbrev pub Agree : Placement → Type 0
+  Agree P = (x y : ℕ) → x < n → y < n → SameAddress rec P x y → Holds P x (pos 0) y
+
+  -- what a test of two dereferences leaves: they are joined where they read one address and are in two classes
+  pub data Meeting (p0 : List ℕ) (o0 : List ℤ) (p : List ℕ) (o : List ℤ) (x y : ℕ) : Met → Type 0 where
+    as-before : Unchanged p0 o0 p o → Meeting p0 o0 p o x y Met.Nothing
+    joined : Links p o → length p ≡ length p0 → SameAddress rec (flat p0 o0) x y → Joined n (flat p0 o0) (flat p o) x (pos 0) y → Meeting p0 o0 p o x y Met.Joined
+    clashed : Unchanged p0 o0 p o → Clash (flat p0 o0) x y → Meeting p0 o0 p o x y Met.Clashed
+
+  -- what joins leave, with two dereferences that clash where they end in false
+  pub data Chased (p0 : List ℕ) (o0 : List ℤ) (p : List ℕ) (o : List ℤ) : Bool → Type 0 where
+    going : Chain (flat p0 o0) (flat p o) → Labels n p o → length p ≡ length p0 → Chased p0 o0 p o true
+    clash : {x y : ℕ} → Chain (flat p0 o0) (flat p o) → length p ≡ length p0 → Clash (flat p o) x y → Chased p0 o0 p o false
+
+  -- and where they end in true: the labels, in columns, on which all dereferences of one address agree
+  pub data Closing (p0 : List ℕ) (o0 : List ℤ) (p : List ℕ) (o : List ℤ) : Bool → Type 0 where
+    closed : Chain (flat p0 o0) (flat p o) → Labels n p o → length p ≡ length p0 → view p o ≡ flat p o → Agree (flat p o) → Closing p0 o0 p o true
+    clash : {x y : ℕ} → Chain (flat p0 o0) (flat p o) → length p ≡ length p0 → Clash (flat p o) x y → Closing p0 o0 p o false
+
+  module _ {p0 : List ℕ} {o0 : List ℤ} {p1 : List ℕ} {o1 : List ℤ} {p2 : List ℕ} {o2 : List ℤ} where
+    pub unchanged-chased : Labels n p1 o1 → Chain (flat p0 o0) (flat p1 o1) → length p1 ≡ length p0 → Unchanged p1 o1 p2 o2 → Chased p0 o0 p2 o2 true
+    unchanged-chased L c l U = going (rw (U .same) c) (unchanged-labels U L) (U .long ∙ l)
+
+    -- one more test of two dereferences
+    pub meeting-going : {x y : ℕ} → x < n → y < n → Chased p0 o0 p1 o1 true → Meeting p1 o1 p2 o2 x y Met.Nothing → Chased p0 o0 p2 o2 true
+    meeting-going hx hy (going c L l) (as-before U) = unchanged-chased L c l U
+
+    pub meeting-joined : {x y : ℕ} → x < n → y < n → Chased p0 o0 p1 o1 true → Meeting p1 o1 p2 o2 x y Met.Joined → Chased p0 o0 p2 o2 true
+    meeting-joined hx hy (going c L l) (joined K k s J) = going (more c hx hy s J) (joined-labels K k hx hy zero-within J L) (k ∙ l)
+
+    pub meeting-clashed : {x y : ℕ} → Chased p0 o0 p1 o1 true → Meeting p1 o1 p2 o2 x y Met.Clashed → Chased p0 o0 p2 o2 false
+    meeting-clashed {x} {y} (going c L l) (clashed U C) = clash {x = x} {y = y} (rw (U .same) c) (U .long ∙ l) (rw (U .same) C)
+
+    -- one run after another
+    pub chased-then : {b : Bool} → Chased p0 o0 p1 o1 true → Chased p1 o1 p2 o2 b → Chased p0 o0 p2 o2 b
+    chased-then (going c L l) (going d M m) = going (chain-append c d) M (m ∙ l)
+    chased-then (going c L l) (clash d m C) = clash (chain-append c d) (m ∙ l) C
+
+    pub closing-then : {b : Bool} → Chased p0 o0 p1 o1 true → Closing p1 o1 p2 o2 b → Closing p0 o0 p2 o2 b
+    closing-then (going c L l) (closed d M m v A) = closed (chain-append c d) M (m ∙ l) v A
+    closing-then (going c L l) (clash d m C) = clash (chain-append c d) (m ∙ l) C
+
+  pub chased-start : {p : List ℕ} {o : List ℤ} → Labels n p o → Chased p o p o true
+  chased-start L = going start L refl
+
+  pub chased-labels : {p0 p : List ℕ} {o0 o : List ℤ} → Chased p0 o0 p o true → Labels n p o
+  chased-labels (going c L l) = L
+
+  pub chased-clash : {p0 p : List ℕ} {o0 o : List ℤ} → Chased p0 o0 p o false → Closing p0 o0 p o false
+  chased-clash (clash c l C) = clash c l C
+
+  pub chased-long : {p0 p : List ℕ} {o0 o : List ℤ} → Chased p0 o0 p o true → length p ≡ length p0
+  chased-long (going c L l) = l

@@ -1,0 +1,223 @@
+// The closure: dereferences of one address are joined until all agree. Each join is tested where it is made; the last look shows that
+// none is left. Where to look first is noted in `uses`.
+use crate::Met;
+use crate::equalities::index;
+use crate::uses::add_use;
+use crate::uses::first_slot;
+use crate::uses::join_uses;
+use crate::uses::pop;
+use crate::uses::set_slot;
+use crate::uses::slot;
+use offsets::is_same;
+use offsets::sum;
+use tables::TermRow;
+use tables::term_at;
+use types::DEREF;
+use types::TermNumber;
+use types::TermRecord;
+use unionfind::Joining;
+use unionfind::Root;
+use unionfind::find;
+use unionfind::join;
+ghost use Prim.Native.Nat.{_<_};
+ghost use lib.ListN.{length};
+ghost use Rattle.lists.specs.Lent.{before, after};
+ghost use Rattle.labels.specs.Spread.{Within};
+ghost use Rattle.tables.specs.Limits.{offsetLimit};
+ghost use Rattle.tables.specs.Rows.{termAt};
+ghost use Rattle.tables.specs.TermTable.{AcceptedTerms};
+ghost use Rattle.consistency.specs.Labels.{Labels, Unchanged};
+ghost use Rattle.consistency.specs.Closing.{Addressed, Reads, Meeting, Chased, Closing};
+
+// The class and the address that a dereference reads.
+fn address(parents: &mut [u32], offs: &mut [i64], r: TermRecord) -> Root
+    requires { ⌜ Labels (length (now parents)) (now parents) (now offs) × ((r .number < length (now parents)) × Within offsetLimit (r .offset)) ⌝ }
+    ensures { λ at. ⌜ Addressed (before parents) (before offs) (after parents) (after offs) r at ⌝ }
+{
+    let inner = find(parents, offs, TermNumber(index(r.number)));
+    let class = inner.term;
+    let offset = sum(r.offset, inner.offset);
+    Root {
+        term: class,
+        offset,
+    }
+}
+
+// Whether y is a dereference that reads this address.
+fn reads(
+    terms: &[TermRow],
+    parents: &mut [u32],
+    offs: &mut [i64],
+    y: TermNumber,
+    at: Root,
+) -> bool
+    requires { ⌜ AcceptedTerms (length (now terms)) (termAt (now terms)) × (Labels (length (now terms)) (now parents) (now offs) × (y .0 < length (now terms))) ⌝ }
+    ensures { λ r. ⌜ Reads (termAt (before terms)) (before parents) (before offs) (after parents) (after offs) (y .0) at r ⌝ }
+{
+    let r = term_at(terms, y);
+    if r.kind != DEREF {
+        return false;
+    }
+    let other = address(parents, offs, r);
+    if at.term.0 != other.term.0 {
+        return false;
+    }
+    is_same(at.offset, other.offset)
+}
+
+// Joins x and y, if they are dereferences of one address in two classes.
+fn meet(
+    terms: &[TermRow],
+    parents: &mut [u32],
+    offs: &mut [i64],
+    x: TermNumber,
+    y: TermNumber,
+) -> Met
+    requires { ⌜ AcceptedTerms (length (now terms)) (termAt (now terms)) × Labels (length (now terms)) (now parents) (now offs) ⌝ }
+    requires { ⌜ (x .0 < length (now terms)) × (y .0 < length (now terms)) ⌝ }
+    ensures { λ r. ⌜ Meeting (length (before terms)) (termAt (before terms)) (before parents) (before offs) (after parents) (after offs) (x .0) (y .0) r ⌝ }
+{
+    let r = term_at(terms, x);
+    if r.kind != DEREF {
+        return Met::Nothing;
+    }
+    let at = address(parents, offs, r);
+    if !reads(terms, parents, offs, y, at) {
+        return Met::Nothing;
+    }
+    match join(parents, offs, x, 0, y) {
+        Joining::Joined => Met::Joined,
+        Joining::Held => Met::Nothing,
+        Joining::Clashed => Met::Clashed,
+    }
+}
+
+// One more than a dereference in the table that reads this address; 0 if none is found, and then x is put there.
+fn lookup(
+    terms: &[TermRow],
+    parents: &mut [u32],
+    offs: &mut [i64],
+    notes: &mut [u32],
+    start: usize,
+    x: TermNumber,
+    at: Root,
+) -> usize
+    requires { ⌜ AcceptedTerms (length (now terms)) (termAt (now terms)) × Labels (length (now terms)) (now parents) (now offs) ⌝ }
+    ensures { λ _. ⌜ Unchanged (before parents) (before offs) (after parents) (after offs) ⌝ }
+{
+    for i in 0..64 {
+        let s = start % 4096 + i;
+        let found = slot(notes, s);
+        if found == 0 {
+            set_slot(notes, s, x.0);
+            return 0;
+        }
+        let y = found - 1;
+        if terms.len() <= y {
+            return 0;
+        }
+        if reads(terms, parents, offs, TermNumber(y), at) {
+            return found;
+        }
+    }
+    0
+}
+
+// Joins x and y, if they are dereferences of one address in two classes, and their uses; tells whether they do not clash.
+fn merge(
+    terms: &[TermRow],
+    parents: &mut [u32],
+    offs: &mut [i64],
+    notes: &mut [u32],
+    shifts: &mut [u64],
+    x: TermNumber,
+    y: TermNumber,
+) -> bool
+    requires { ⌜ AcceptedTerms (length (now terms)) (termAt (now terms)) × Labels (length (now terms)) (now parents) (now offs) ⌝ }
+    requires { ⌜ (x .0 < length (now terms)) × (y .0 < length (now terms)) ⌝ }
+    ensures { λ r. ⌜ Chased (length (before terms)) (termAt (before terms)) (before parents) (before offs) (after parents) (after offs) r ⌝ }
+{
+    let a = find(parents, offs, x);
+    let b = find(parents, offs, y);
+    match meet(terms, parents, offs, x, y) {
+        Met::Nothing => true,
+        Met::Joined => {
+            join_uses(notes, shifts, a, b);
+            true
+        }
+        Met::Clashed => false,
+    }
+}
+
+// Looks x up, and joins it with what is found there; tells whether they do not clash.
+fn step(
+    terms: &[TermRow],
+    parents: &mut [u32],
+    offs: &mut [i64],
+    notes: &mut [u32],
+    shifts: &mut [u64],
+    x: TermNumber,
+) -> bool
+    requires { ⌜ AcceptedTerms (length (now terms)) (termAt (now terms)) × (Labels (length (now terms)) (now parents) (now offs) × (x .0 < length (now terms))) ⌝ }
+    ensures { λ r. ⌜ Chased (length (before terms)) (termAt (before terms)) (before parents) (before offs) (after parents) (after offs) r ⌝ }
+{
+    let r = term_at(terms, x);
+    if r.kind != DEREF {
+        return true;
+    }
+    let at = address(parents, offs, r);
+    let start = first_slot(notes, shifts, at);
+    let found = lookup(terms, parents, offs, notes, start, x, at);
+    if found == 0 {
+        return true;
+    }
+    let y = found - 1;
+    if terms.len() <= y {
+        return true;
+    }
+    merge(terms, parents, offs, notes, shifts, x, TermNumber(y))
+}
+
+// Lists the dereferences over each class, and puts all on the stack, the lowest on top.
+pub(crate) fn list_uses(terms: &[TermRow], parents: &mut [u32], offs: &mut [i64], notes: &mut [u32])
+    requires { ⌜ AcceptedTerms (length (now terms)) (termAt (now terms)) × Labels (length (now terms)) (now parents) (now offs) ⌝ }
+    ensures { λ _. ⌜ Unchanged (before parents) (before offs) (after parents) (after offs) ⌝ }
+{
+    for k in 0..terms.len() {
+        let x = terms.len() - 1 - k;
+        let r = term_at(terms, TermNumber(x));
+        if r.kind != DEREF {
+            continue;
+        }
+        let inner = find(parents, offs, TermNumber(index(r.number)));
+        add_use(notes, inner.term.0, x);
+    }
+}
+
+// Looks at the dereferences on the stack until it is empty, or two clash, or 8,192 were looked at.
+pub(crate) fn chase(
+    terms: &[TermRow],
+    parents: &mut [u32],
+    offs: &mut [i64],
+    notes: &mut [u32],
+    shifts: &mut [u64],
+) -> bool
+    requires { ⌜ AcceptedTerms (length (now terms)) (termAt (now terms)) × Labels (length (now terms)) (now parents) (now offs) ⌝ }
+    ensures { λ r. ⌜ Chased (length (before terms)) (termAt (before terms)) (before parents) (before offs) (after parents) (after offs) r ⌝ }
+{
+    for _ in 0..8192 {
+        let top = pop(notes);
+        if top == 0 {
+            return true;
+        }
+        let x = top - 1;
+        if terms.len() <= x {
+            return true;
+        }
+        if !step(terms, parents, offs, notes, shifts, TermNumber(x)) {
+            return false;
+        }
+    }
+    true
+}
+

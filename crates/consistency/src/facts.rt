@@ -1,0 +1,107 @@
+// The kept facts that labels can contradict: disequalities, block disequalities, and variables in one class.
+use crate::equalities::index;
+use offsets::is_same;
+use offsets::sum;
+use tables::PropositionRow;
+use tables::TermRow;
+use tables::proposition_at;
+use tables::term_at;
+use types::BLOCK_DISEQUALITY;
+use types::DISEQUALITY;
+use types::PropositionNumber;
+use types::TermNumber;
+use types::VARIABLE;
+ghost use mathlib.Core.Path.{_≡_};
+ghost use Prim.Native.Nat.{ℕ, _≤_, _<_};
+ghost use lib.ListN.{length, getD};
+ghost use Rattle.lists.specs.Lent.{before, after};
+ghost use Rattle.labels.specs.Spread.{Within, far};
+ghost use Rattle.labels.specs.View.{view};
+ghost use Rattle.closure.specs.Facts.{comparison};
+ghost use Rattle.closure.specs.Verdict.{holds as labelsHold};
+ghost use Rattle.tables.specs.Rows.{termAt, propositionAt};
+ghost use Rattle.tables.specs.PropositionTable.{AcceptedPropositions};
+ghost use Rattle.unionfind.specs.Forest.{Near};
+ghost use Rattle.consistency.specs.Labels.{Columns};
+ghost use Rattle.consistency.specs.Deciding.{Judged, Refuted, Meets};
+
+// Whether the labels say a = z + b.
+fn holds(reps: &[u32], offs: &[i64], a: TermNumber, z: i64, b: TermNumber) -> bool
+    requires { ⌜ Columns (now reps) (now offs) × ((a .0 < length (now reps)) × ((b .0 < length (now reps)) × Within far z)) ⌝ }
+    ensures { λ r. ⌜ r ≡ labelsHold (view (before reps) (before offs)) (comparison (a .0) z (b .0)) ⌝ }
+{
+    let i = a.0;
+    let j = b.0;
+    if reps[i] != reps[j] {
+        return false;
+    }
+    is_same(offs[i], sum(z, offs[j]))
+}
+
+// Whether the labels contradict proposition p, if it is a kept disequality or block disequality.
+fn is_refuted(
+    propositions: &[PropositionRow],
+    marks: &[u8],
+    reps: &[u32],
+    offs: &[i64],
+    p: PropositionNumber,
+) -> bool
+    requires { ⌜ AcceptedPropositions (length (now reps)) (length (now propositions)) (propositionAt (now propositions)) × Columns (now reps) (now offs) ⌝ }
+    requires { ⌜ (length (now propositions) ≤ length (now marks)) × (p .0 < length (now propositions)) ⌝ }
+    ensures { λ r. ⌜ Judged (propositionAt (before propositions)) (before marks) (view (before reps) (before offs)) (p .0) r ⌝ }
+{
+    let k = p.0;
+    if marks[k] == 0 {
+        return false;
+    }
+    let r = proposition_at(propositions, p);
+    let left = index(r.left);
+    let right = index(r.right);
+    if r.kind == DISEQUALITY {
+        return holds(reps, offs, TermNumber(left), r.offset, TermNumber(right));
+    }
+    if r.kind == BLOCK_DISEQUALITY {
+        return reps[left] == reps[right];
+    }
+    false
+}
+
+// Whether the labels contradict a kept disequality or block disequality.
+pub(crate) fn any_refuted(
+    propositions: &[PropositionRow],
+    marks: &[u8],
+    reps: &[u32],
+    offs: &[i64],
+) -> bool
+    requires { ⌜ AcceptedPropositions (length (now reps)) (length (now propositions)) (propositionAt (now propositions)) × Columns (now reps) (now offs) ⌝ }
+    requires { ⌜ length (now propositions) ≤ length (now marks) ⌝ }
+    ensures { λ r. ⌜ Refuted (length (before propositions)) (propositionAt (before propositions)) (before marks) (view (before reps) (before offs)) r ⌝ }
+{
+    for p in 0..propositions.len() {
+        if is_refuted(propositions, marks, reps, offs, PropositionNumber(p)) {
+            return true;
+        }
+    }
+    false
+}
+
+// Whether two variables are in one class: `seen` has for each class one more than a variable in it, or 0.
+pub(crate) fn variables_meet(terms: &[TermRow], reps: &[u32]) -> bool
+    requires { ⌜ (length (now terms) ≤ 512) × (length (now reps) ≡ length (now terms)) ⌝ }
+    requires { ⌜ ((t : ℕ) → t < length (now reps) → getD (now reps) t 0 < length (now reps)) ⌝ }
+    ensures { λ r. ⌜ Meets (length (before terms)) (termAt (before terms)) (before reps) r ⌝ }
+{
+    let mut seen = [0u32; 512];
+    for t in 0..terms.len() {
+        let r = term_at(terms, TermNumber(t));
+        if r.kind != VARIABLE {
+            continue;
+        }
+        let class = reps[t] as usize;
+        if seen[class] != 0 {
+            return true;
+        }
+        seen[class] = 1;
+    }
+    false
+}

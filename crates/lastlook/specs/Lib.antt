@@ -1,0 +1,2 @@
+-- The addresses that dereferences read.
+pub mod Addresses
