@@ -8,10 +8,13 @@ use native.Mathlib.Nat.{mul-le-mul, div-lt-iff-lt-mul, mod-lt}
 use lib.Arith.{digits-lt, digits-div, digits-mod}
 use lib.IntN.{ℤ, pos, _+ℤ_}
 use lib.ListN.{length, getD}
+use mir.Syntax.{w64}
+use mir.Val.{SFits, toZ, ofZ}
+use mir.ValLaws.{toZ-ofZ}
 use Rattle.integers.specs.Compare.{eqℤ, eqℤ-true, eqℤ-false}
 use Rattle.integers.specs.Linear.{linear, value, ‹_›, #_, _⊕_}
 use Rattle.rules.specs.Assignments.{Placement, Holds}
-use Rattle.labels.specs.Spread.{Within}
+use Rattle.labels.specs.Spread.{Within, far}
 use Rattle.closure.specs.Facts.{comparison}
 use Rattle.closure.specs.Verdict.{holds, holds-true, true-holds}
 use Rattle.types.specs.declared.TermNumber.{TermNumber}
@@ -20,10 +23,6 @@ use Rattle.tables.specs.Records.{TermRecord, derefKind}
 use Rattle.tables.specs.Rows.{Row, termAt}
 use Rattle.tables.specs.TermTable.{AcceptedTerms, inner-before, offset-within}
 use Rattle.lastlook.specs.declared.Look.{Look}
-
--- no offset of a labelling of at most 512 terms is farther than this
-abbrev pub far : ℕ
-far = 2 ^ 41
 
 -- accepted terms, and a label for each
 pub record Labelled (terms : List Row) (reps : List ℕ) (offs : List ℤ) : Type 0 where
@@ -63,6 +62,10 @@ pub data Unequal (rec : ℕ → TermRecord) (P : Placement) (x y : ℕ) : Bool �
 pub data Looked (n : ℕ) (rec : ℕ → TermRecord) (P : Placement) : Look → Type 0 where
   pair : {x y : TermNumber} → x .0 < n → y .0 < n → SameAddress rec P (x .0) (y .0) → (Holds P (x .0) (pos 0) (y .0) → ⊥) → Looked n rec P (Look.Pair x y)
   closed : ((x y : ℕ) → x < n → y < n → SameAddress rec P x y → Holds P x (pos 0) y) → Looked n rec P Look.Closed
+
+-- a test of two numbers that were read
+pub signed-same : (a b : ℤ) → SFits w64 a → SFits w64 b → eqℤ (toZ w64 (ofZ w64 a)) (toZ w64 (ofZ w64 b)) ≡ eqℤ a b
+signed-same a b f g = rw (toZ-ofZ w64 a f, toZ-ofZ w64 b g)
 
 pub zero-plus : (z : ℤ) → pos 0 +ℤ z ≡ z
 zero-plus z = omega (linear, value (# 0 ⊕ ‹ z ›))

@@ -1,2 +1,3 @@
--- The addresses that dereferences read.
+-- The addresses that dereferences read, and what an order of the dereferences shows of them.
 pub mod Addresses
+pub mod Order

@@ -1,7 +1,296 @@
+// The last look of the congruence closure: two dereferences of one address with different labels, or the proof that there are none.
+// The dereferences are sorted by class and address. How they are sorted is not relied on: a test of the order carries the proof, and
+// if it should fail, all pairs are looked at.
+
+mod sorting;
+
+use offsets::bits;
+use offsets::is_same;
+use offsets::sum;
+use sorting::Words;
+use sorting::sort;
+use tables::TermRow;
+use tables::term_at;
 use types::TermNumber;
+ghost use mathlib.Core.Path.{_≡_};
+ghost use Prim.Native.Nat.{_*_, _^_, _≤_, _<_};
+ghost use lib.Dec.{eqb};
+ghost use lib.IntN.{pos};
+ghost use lib.ListN.{length, getD};
+ghost use Rattle.lists.specs.Lent.{before};
+ghost use Rattle.labels.specs.View.{view};
+ghost use Rattle.closure.specs.Facts.{comparison};
+ghost use Rattle.closure.specs.Verdict.{holds};
+ghost use Rattle.tables.specs.Records.{derefKind};
+ghost use Rattle.tables.specs.Rows.{termAt};
+ghost use Rattle.lastlook.specs.Addresses.{Labelled, addressOf, Meeting, Unequal, Looked};
+ghost use Rattle.lastlook.specs.Order.{keyOf, wordOf, Tested, Follows, Ordered, Standing};
 
 // What a look finds: two dereferences of one address with different labels, or none.
 pub enum Look {
     Pair(TermNumber, TermNumber),
     Closed,
+}
+
+// What a test of neighbours in the order finds: a pair as above; that keys do not fall and labels agree; or neither.
+enum Neighbours {
+    Pair(TermNumber, TermNumber),
+    Agree,
+    Unordered,
+}
+
+// The room that an address has in a key: addresses are within 2^42.
+const ROOM: u64 = 0x1000_0000_0000;
+
+fn index_of(x: u64) -> usize
+    ensures { λ r. ⌜ r ≡ x ⌝ }
+{
+    x as usize
+}
+
+fn is_deref(terms: &[TermRow], x: TermNumber) -> bool
+    requires { ⌜ x .0 < length (now terms) ⌝ }
+    ensures { λ r. ⌜ r ≡ eqb (termAt (before terms) (x .0) .kind) derefKind ⌝ }
+{
+    term_at(terms, x).kind == 3
+}
+
+// The class of the term inside the dereference x.
+fn class_of(terms: &[TermRow], reps: &[u32], x: TermNumber) -> u32
+    requires { ⌜ (x .0 < length (now terms)) × (termAt (now terms) (x .0) .number < length (now reps)) ⌝ }
+    ensures { λ r. ⌜ r ≡ getD (before reps) (termAt (before terms) (x .0) .number) 0 ⌝ }
+{
+    let inner = index_of(term_at(terms, x).number);
+    reps[inner]
+}
+
+// The address that the dereference x reads, as an offset from the representative of the term inside.
+fn address_of(terms: &[TermRow], reps: &[u32], offs: &[i64], x: TermNumber) -> i64
+    requires { ⌜ Labelled (now terms) (now reps) (now offs) ⌝ }
+    requires { ⌜ (x .0 < length (now terms)) × (termAt (now terms) (x .0) .kind ≡ derefKind) ⌝ }
+    ensures { λ r. ⌜ r ≡ addressOf (termAt (before terms)) (view (before reps) (before offs)) (x .0) ⌝ }
+{
+    let r = term_at(terms, x);
+    let inner = index_of(r.number);
+    sum(r.offset, offs[inner])
+}
+
+// Whether x and y have one label.
+fn same_label(reps: &[u32], offs: &[i64], x: TermNumber, y: TermNumber) -> bool
+    requires { ⌜ length (now offs) ≡ length (now reps) ⌝ }
+    requires { ⌜ (x .0 < length (now reps)) × (y .0 < length (now reps)) ⌝ }
+    ensures { λ r. ⌜ r ≡ holds (view (before reps) (before offs)) (comparison (x .0) (pos 0) (y .0)) ⌝ }
+{
+    let i = x.0;
+    let j = y.0;
+    if reps[i] != reps[j] {
+        return false;
+    }
+    is_same(offs[i], offs[j])
+}
+
+// Whether x and y are dereferences of one address.
+fn same_address(terms: &[TermRow], reps: &[u32], offs: &[i64], x: TermNumber, y: TermNumber) -> bool
+    requires { ⌜ Labelled (now terms) (now reps) (now offs) × ((x .0 < length (now terms)) × (y .0 < length (now terms))) ⌝ }
+    ensures { λ r. ⌜ Meeting (termAt (before terms)) (view (before reps) (before offs)) (x .0) (y .0) r ⌝ }
+{
+    if !is_deref(terms, x) {
+        return false;
+    }
+    if !is_deref(terms, y) {
+        return false;
+    }
+    if class_of(terms, reps, x) != class_of(terms, reps, y) {
+        return false;
+    }
+    is_same(
+        address_of(terms, reps, offs, x),
+        address_of(terms, reps, offs, y),
+    )
+}
+
+// Whether x and y are dereferences of one address with different labels.
+fn is_unequal(terms: &[TermRow], reps: &[u32], offs: &[i64], x: TermNumber, y: TermNumber) -> bool
+    requires { ⌜ Labelled (now terms) (now reps) (now offs) × ((x .0 < length (now terms)) × (y .0 < length (now terms))) ⌝ }
+    ensures { λ r. ⌜ Unequal (termAt (before terms)) (view (before reps) (before offs)) (x .0) (y .0) r ⌝ }
+{
+    if !same_address(terms, reps, offs, x, y) {
+        return false;
+    }
+    !same_label(reps, offs, x, y)
+}
+
+// One number for a class and an address: equal for equal ones, and for no others.
+fn key(class: u32, address: i64) -> u64
+    requires { ⌜ class < 512 ⌝ }
+    ensures { λ r. ⌜ (r ≡ keyOf class address) × (r < 2 ^ 53) ⌝ }
+{
+    class as u64 * ROOM + bits(address) % ROOM
+}
+
+// The word of the dereference x: its key, and x in the lowest 9 bits.
+fn word(terms: &[TermRow], reps: &[u32], offs: &[i64], x: TermNumber) -> u64
+    requires { ⌜ Labelled (now terms) (now reps) (now offs) ⌝ }
+    requires { ⌜ (x .0 < length (now terms)) × (termAt (now terms) (x .0) .kind ≡ derefKind) ⌝ }
+    ensures { λ r. ⌜ r ≡ wordOf (termAt (before terms)) (view (before reps) (before offs)) (x .0) ⌝ }
+{
+    let k = key(class_of(terms, reps, x), address_of(terms, reps, offs, x));
+    k * 512 + x.0 as u64
+}
+
+// Lists the words of the dereferences, and returns how many there are.
+fn list_words(terms: &[TermRow], reps: &[u32], offs: &[i64], words: &mut Words) -> usize
+    requires { ⌜ Labelled (now terms) (now reps) (now offs) ⌝ }
+    ensures { λ r. ⌜ r ≤ 512 ⌝ }
+{
+    let mut count = 0;
+    for x in 0..terms.len() {
+        if !is_deref(terms, TermNumber(x)) {
+            continue;
+        }
+        words[count] = word(terms, reps, offs, TermNumber(x));
+        count += 1;
+    }
+    count
+}
+
+// Notes the place of each of the words by the number of its term.
+fn note_places(words: &Words, count: usize, places: &mut [usize; 512])
+    requires { ⌜ count ≤ 512 ⌝ }
+{
+    for i in 0..count {
+        let x = index_of(words[i] % 512);
+        places[x] = i;
+    }
+}
+
+// Whether each dereference's word stands at its noted place.
+fn all_stand(
+    terms: &[TermRow],
+    reps: &[u32],
+    offs: &[i64],
+    words: &Words,
+    count: usize,
+    places: &[usize; 512],
+) -> bool
+    requires { ⌜ Labelled (now terms) (now reps) (now offs) × (count ≤ 512) ⌝ }
+    ensures { λ r. ⌜ Standing (length (before terms)) (termAt (before terms)) (view (before reps) (before offs)) (before words) count r ⌝ }
+{
+    for x in 0..terms.len() {
+        if !is_deref(terms, TermNumber(x)) {
+            continue;
+        }
+        let i = places[x];
+        if count <= i {
+            return false;
+        }
+        if words[i] != word(terms, reps, offs, TermNumber(x)) {
+            return false;
+        }
+    }
+    true
+}
+
+// Tests whether word b follows word a.
+fn compare(terms: &[TermRow], reps: &[u32], offs: &[i64], a: u64, b: u64) -> Neighbours
+    requires { ⌜ Labelled (now terms) (now reps) (now offs) ⌝ }
+    ensures { λ r. let P = view (before reps) (before offs) in ⌜ Tested (length (before terms)) (termAt (before terms)) P (Follows P a b) r ⌝ }
+{
+    if a / 512 < b / 512 {
+        return Neighbours::Agree;
+    }
+    if b / 512 < a / 512 {
+        return Neighbours::Unordered;
+    }
+    let x = index_of(a % 512);
+    let y = index_of(b % 512);
+    if terms.len() <= x {
+        return Neighbours::Unordered;
+    }
+    if terms.len() <= y {
+        return Neighbours::Unordered;
+    }
+    if same_label(reps, offs, TermNumber(x), TermNumber(y)) {
+        return Neighbours::Agree;
+    }
+    if is_unequal(terms, reps, offs, TermNumber(x), TermNumber(y)) {
+        return Neighbours::Pair(TermNumber(x), TermNumber(y));
+    }
+    Neighbours::Unordered
+}
+
+// Tests whether each word follows the one before it.
+fn compare_all(
+    terms: &[TermRow],
+    reps: &[u32],
+    offs: &[i64],
+    words: &Words,
+    count: usize,
+) -> Neighbours
+    requires { ⌜ Labelled (now terms) (now reps) (now offs) × (count ≤ 512) ⌝ }
+    ensures { λ r. let P = view (before reps) (before offs) in ⌜ Tested (length (before terms)) (termAt (before terms)) P (Ordered P (before words) count) r ⌝ }
+{
+    for i in 1..count {
+        match compare(terms, reps, offs, words[i - 1], words[i]) {
+            Neighbours::Pair(x, y) => return Neighbours::Pair(x, y),
+            Neighbours::Unordered => return Neighbours::Unordered,
+            Neighbours::Agree => continue,
+        }
+    }
+    Neighbours::Agree
+}
+
+// Looks at all pairs.
+fn look_at_all(terms: &[TermRow], reps: &[u32], offs: &[i64]) -> Look
+    requires { ⌜ Labelled (now terms) (now reps) (now offs) ⌝ }
+    ensures { λ r. ⌜ Looked (length (before terms)) (termAt (before terms)) (view (before reps) (before offs)) r ⌝ }
+{
+    let n = terms.len();
+    for k in 0..n * n {
+        let x = k / n;
+        let y = k % n;
+        if is_unequal(terms, reps, offs, TermNumber(x), TermNumber(y)) {
+            return Look::Pair(TermNumber(x), TermNumber(y));
+        }
+    }
+    Look::Closed
+}
+
+// Looks at neighbours only, if the words are in order and hold each dereference.
+fn look_by_order(
+    terms: &[TermRow],
+    reps: &[u32],
+    offs: &[i64],
+    words: &Words,
+    count: usize,
+    places: &[usize; 512],
+) -> Look
+    requires { ⌜ Labelled (now terms) (now reps) (now offs) × (count ≤ 512) ⌝ }
+    ensures { λ r. ⌜ Looked (length (before terms)) (termAt (before terms)) (view (before reps) (before offs)) r ⌝ }
+{
+    match compare_all(terms, reps, offs, words, count) {
+        Neighbours::Pair(x, y) => return Look::Pair(x, y),
+        Neighbours::Unordered => return look_at_all(terms, reps, offs),
+        Neighbours::Agree => {
+            if all_stand(terms, reps, offs, words, count, places) {
+                return Look::Closed;
+            }
+            return look_at_all(terms, reps, offs);
+        }
+    }
+}
+
+// Two dereferences that read one address and have different labels, the first neighbours in an order of the dereferences by class and
+// address. Public for the crate `consistency`.
+pub fn unequal_pair(terms: &[TermRow], reps: &[u32], offs: &[i64]) -> Look
+    requires { ⌜ Labelled (now terms) (now reps) (now offs) ⌝ }
+    ensures { λ r. ⌜ Looked (length (before terms)) (termAt (before terms)) (view (before reps) (before offs)) r ⌝ }
+{
+    let mut words = [0u64; 512];
+    let mut spare = [0u64; 512];
+    let mut places = [0usize; 512];
+    let count = list_words(terms, reps, offs, &mut words);
+    sort(&mut words, &mut spare, count);
+    note_places(&words, count, &mut places);
+    look_by_order(terms, reps, offs, &words, count, &places)
 }

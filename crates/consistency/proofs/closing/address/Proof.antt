@@ -1,33 +1,27 @@
+use mathlib.Core.Path.{_≡_, refl, sym, _∙_}
+use mir.Syntax.{w64}
+use mir.ValLaws.{toZ-ofZ}
+use borrow.Author.Needs.{needs, sfits-of}
+use Rattle.consistency.specs.Labels.{labels-near}
 use borrow.Author.Needs.{needs}
 use Rattle.consistency.proofs.closing.address.Statement.{statement}
 use Rattle.consistency.proofs.closing.address.Tie as tie
-use Rattle.consistency.proofs.closing.address.Reads as reads
-use Rattle.consistency.proofs.closing.address.Lts as lts
-use Rattle.consistency.proofs.equalities.index.Reads as index-reads
-use Rattle.offsets.proofs.sum.Reads as sum-reads
-use Rattle.unionfind.proofs.find.Reads as find-reads
 
--- src/closing.rt:37:48
 index-requires : tie.Need-index-requires
 index-requires c κs = search needs
 
--- src/closing.rt:37:9
 find-requires : tie.Need-find-requires
-find-requires c κs = ?
+find-requires c κs = let s = (c .before .before .before .before) in ((s .pre .0 .links, labels-near (s .pre .0)), rw (c .index .ensures) (s .pre .1 .0))
 
--- src/closing.rt:39:9
 sum-requires : tie.Need-sum-requires
 sum-requires c κs = ?
 
--- src/closing.rt:33:1
 same-length : tie.Need-same-length
 same-length c = search needs
 
--- src/closing.rt:33:1
 same-length-2 : tie.Need-same-length-2
 same-length-2 c = search needs
 
--- src/closing.rt:33:1
 returns : tie.Need-returns
 returns c = ?
 
