@@ -1,26 +1,43 @@
 -- Joins of dereferences of one address, one after another, and how they end.
 use Prim.Native.Nat.{ℕ, _+_, _<_}
-use mathlib.Core.Path.{_≡_, refl, sym, _∙_}
+use mathlib.Core.Path.{_≡_, refl, sym, _∙_, ap}
 use mathlib.Core.Logic.{_≢_}
 use mathlib.Core.Bool.{Bool, true, false}
 use mathlib.Core.List.{List}
 use native.Mathlib.Omega.{arith}
 use lib.IntN.{ℤ, pos, _+ℤ_}
 use lib.ListN.{length}
+use Rattle.integers.specs.Compare.{eqℤ, eqℤ-true}
 use Rattle.integers.specs.Linear.{value, #_}
 use Rattle.rules.specs.Assignments.{Placement, Holds}
-use Rattle.labels.specs.Spread.{Within}
+use mir.Syntax.{w64}
+use mir.Val.{SFits}
+use Rattle.labels.specs.Spread.{Within, far}
+use Rattle.offsets.specs.Fits.{within-fits, within-sum}
+use Rattle.tables.specs.Limits.{offsetLimit}
 use Rattle.labels.specs.View.{view}
 use Rattle.labels.specs.Joins.{Joined, joined-keeps}
 use Rattle.tables.specs.Records.{TermRecord, derefKind}
+use Rattle.tables.specs.TermTable.{AcceptedTerms, inner-before, offset-within}
 use Rattle.unionfind.specs.declared.Root.{Root}
-use Rattle.unionfind.specs.Forest.{Links, flat}
+use Rattle.unionfind.specs.declared.Joining.{Joining}
+use Rattle.unionfind.specs.Forest.{Links, flat, Equated}
 use Rattle.lastlook.specs.Addresses.{SameAddress}
 use Rattle.consistency.specs.declared.Met.{Met}
-use Rattle.consistency.specs.Labels.{Labels, Unchanged, unchanged-labels, joined-labels}
+use Rattle.consistency.specs.Labels.{Labels, Unchanged, unchanged-labels, unchanged-then, joined-labels}
 
 pub zero-within : {B : ℕ} → Within B (pos 0)
 zero-within = record { above = omega (arith, value (# 0)); below = omega (arith, value (# 0)) }
+
+-- the address that a dereference reads fits
+pub address-fits : {a b : ℤ} → Within offsetLimit a → Within far b → SFits w64 (a +ℤ b)
+address-fits v w = within-fits (omega arith) (within-sum v w)
+
+pub offset-fits : {a : ℤ} → Within offsetLimit a → SFits w64 a
+offset-fits w = within-fits (omega arith) w
+
+pub far-fits : {a : ℤ} → Within far a → SFits w64 a
+far-fits w = within-fits (omega arith) w
 
 -- the class and the address that the record reads
 pub record Addressed (p0 : List ℕ) (o0 : List ℤ) (p : List ℕ) (o : List ℤ) (r : TermRecord) (at : Root) : Type 0 where
@@ -37,6 +54,39 @@ pub data Reads (rec : ℕ → TermRecord) (p0 : List ℕ) (o0 : List ℤ) (p : L
       at .offset ≡ rec y .offset +ℤ flat p0 o0 .position (rec y .number) →
       Reads rec p0 o0 p o y at true
   does-not : Unchanged p0 o0 p o → Reads rec p0 o0 p o y at false
+
+pub reads-not : {rec : ℕ → TermRecord} {p0 p : List ℕ} {o0 o : List ℤ} {y : ℕ} {at : Root} {b : Bool} → Reads rec p0 o0 p o y at b → Unchanged p0 o0 p o
+reads-not (it-does U k c a) = U
+reads-not (does-not U) = U
+
+pub own-labels : {n : ℕ} {p : List ℕ} {o : List ℤ} → Labels n p o → Labels (length p) p o
+own-labels L = record { few = rw (L .count) (L .few); links = L .links; count = refl; spread = rw (L .count) (L .spread) }
+
+-- the record of an accepted dereference, as the search for its address wants it
+pub deref-record :
+    {n : ℕ} (rec : ℕ → TermRecord) {p : List ℕ} {o : List ℤ} {y : ℕ} {r : TermRecord} →
+    AcceptedTerms n rec →
+    Labels n p o →
+    y < n →
+    r ≡ rec y →
+    r .kind ≡ derefKind →
+    Labels (length p) p o × ((r .number < length p) × Within offsetLimit (r .offset))
+deref-record {n} rec {p} {o} {y} {r} A L h e k =
+    let i : rec y .kind ≡ derefKind = rw e at k in
+    (own-labels L, (omega (arith, inner-before n rec A y h i, ap (λ (t : TermRecord). t .number) e, L .count), rw e (offset-within n rec A y h i)))
+
+pub reads-by :
+    {rec : ℕ → TermRecord} {p0 : List ℕ} {o0 : List ℤ} {p : List ℕ} {o : List ℤ} {y : ℕ} {r : TermRecord} {at other : Root} →
+    r ≡ rec y →
+    r .kind ≡ derefKind →
+    Addressed p0 o0 p o r other →
+    at .term .0 ≡ other .term .0 →
+    (b : Bool) →
+    b ≡ eqℤ (at .offset) (other .offset) →
+    Reads rec p0 o0 p o y at b
+reads-by {rec} {p0} {o0} {p} {o} {y} {r} {at} {other} e k A c true t =
+    it-does (A .unchanged) (rw e at k) (c ∙ rw e at (A .class)) (eqℤ-true (at .offset) (other .offset) (sym t) ∙ rw e at (A .address))
+reads-by e k A c false t = does-not (A .unchanged)
 
 module _ (n : ℕ) (rec : ℕ → TermRecord) where
   pub data Chain (P : Placement) : Placement → Type 0 where
@@ -69,6 +119,46 @@ module _ (n : ℕ) (rec : ℕ → TermRecord) where
     as-before : Unchanged p0 o0 p o → Meeting p0 o0 p o x y Met.Nothing
     joined : Links p o → length p ≡ length p0 → SameAddress rec (flat p0 o0) x y → Joined n (flat p0 o0) (flat p o) x (pos 0) y → Meeting p0 o0 p o x y Met.Joined
     clashed : Unchanged p0 o0 p o → Clash (flat p0 o0) x y → Meeting p0 o0 p o x y Met.Clashed
+
+  -- x and y were found to read one address, by looks that left the labelling as it was
+  pub record Tested (p0 : List ℕ) (o0 : List ℤ) (p : List ℕ) (o : List ℤ) (x y : ℕ) : Type 0 where
+    pub unchanged : Unchanged p0 o0 p o
+    pub same : SameAddress rec (flat p0 o0) x y
+
+  pub tested :
+      {p0 p1 p2 : List ℕ} {o0 o1 o2 : List ℤ} {x y : ℕ} {r : TermRecord} {at : Root} →
+      r ≡ rec x →
+      r .kind ≡ derefKind →
+      Addressed p0 o0 p1 o1 r at →
+      Reads rec p1 o1 p2 o2 y at true →
+      Tested p0 o0 p2 o2 x y
+  tested e k A (it-does U i c a) =
+      let s = A .unchanged .same in
+      record {
+        unchanged = unchanged-then (A .unchanged) U;
+        same = record {
+          deref-x = rw e at k;
+          deref-y = i;
+          block = sym (rw e at (A .class)) ∙ rw s at c;
+          position = sym (rw e at (A .address)) ∙ rw s at a;
+        };
+      }
+
+  -- what the join of two such leaves
+  module _ {p0 p1 p2 : List ℕ} {o0 o1 o2 : List ℤ} {x y : ℕ} (L : Labels n p0 o0) (hx : x < n) (hy : y < n) (T : Tested p0 o0 p1 o1 x y) where
+    pub met-joined : Equated p1 o1 p2 o2 x (pos 0) y Joining.Joined → Meeting p0 o0 p2 o2 x y Met.Joined
+    met-joined (Equated.joined K l J) =
+        joined K (l ∙ T .unchanged .long) (T .same) (rw (T .unchanged .long ∙ L .count, T .unchanged .same) at J)
+
+    pub met-held : Equated p1 o1 p2 o2 x (pos 0) y Joining.Held → Meeting p0 o0 p2 o2 x y Met.Nothing
+    met-held (Equated.held K l s h) = as-before (record { links = K; same = s ∙ T .unchanged .same; long = l ∙ T .unchanged .long })
+
+    pub met-clashed : Equated p1 o1 p2 o2 x (pos 0) y Joining.Clashed → Meeting p0 o0 p2 o2 x y Met.Clashed
+    met-clashed (Equated.clashed K l s b m) =
+        let u = T .unchanged .same in
+        clashed
+        (record { links = K; same = s ∙ u; long = l ∙ T .unchanged .long })
+        (record { below-x = hx; below-y = hy; same = T .same; together = rw u at b; unequal = λ h. rw u at m (h .at-offset) })
 
   -- what joins leave, with two dereferences that clash where they end in false
   pub data Chased (p0 : List ℕ) (o0 : List ℤ) (p : List ℕ) (o : List ℤ) : Bool → Type 0 where

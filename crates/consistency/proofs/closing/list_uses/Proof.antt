@@ -1,85 +1,70 @@
+use Prim.Native.Nat.{_-_, _≤_}
+use mathlib.Core.Path.{_≡_, refl, _∙_}
+use native.Mathlib.Omega.{arith}
+use lib.ListN.{length}
+use Rattle.tables.specs.Rows.{termAt}
+use Rattle.consistency.specs.Labels.{Unchanged, unchanged-self, unchanged-labels, unchanged-then, labels-near}
+use Rattle.consistency.specs.Closing.{deref-record}
+use borrow.Author.Needs.{needs}
 use Rattle.consistency.proofs.closing.list_uses.Statement.{statement}
 use Rattle.consistency.proofs.closing.list_uses.Tie as tie
-use Rattle.consistency.proofs.closing.list_uses.Reads as reads
-use Rattle.consistency.proofs.closing.list_uses.Lts as lts
-use Rattle.consistency.proofs.equalities.index.Reads as index-reads
-use Rattle.consistency.proofs.uses.add_use.Reads as add-use-reads
-use Rattle.tables.proofs.term_at.Reads as term-at-reads
-use Rattle.unionfind.proofs.find.Reads as find-reads
 
 abbrev Inv-loop : tie.InvT-loop
-Inv-loop terms parents₀ offs₀ notes₀ k₀ k-end parents offs notes k = ?
+Inv-loop terms parents₀ offs₀ notes₀ k₀ k-end parents offs notes k = (k ≤ length terms) × (Unchanged parents₀ offs₀ parents offs × (length offs ≡ length offs₀ × (length notes ≡ length notes₀)))
 
 abbrev μ-loop : tie.MeasureT-loop
-μ-loop terms parents₀ offs₀ notes₀ k₀ k-end parents offs notes k = ?
+μ-loop terms parents₀ offs₀ notes₀ k₀ k-end parents offs notes k = length terms - k
 
--- src/closing.rt:186:5
 loop-holds : tie.Need-loop-holds Inv-loop μ-loop
-loop-holds c = ?
+loop-holds c = (omega arith, (unchanged-self ((c .before .before) .pre .1), (refl, refl)))
 
--- src/closing.rt:187:17
 sub-x : tie.Need-sub-x Inv-loop μ-loop
-sub-x c = ?
+sub-x c = omega (arith, c .loop-test .taken)
 
--- src/closing.rt:187:17
 sub-x-2 : tie.Need-sub-x-2 Inv-loop μ-loop
-sub-x-2 c = ?
+sub-x-2 c = omega (arith, c .loop-test .taken)
 
--- src/closing.rt:188:13
 term-at-requires : tie.Need-term-at-requires Inv-loop μ-loop
-term-at-requires c κs = ?
+term-at-requires c κs = omega (arith, c .loop-test .taken)
 
--- src/closing.rt:190:13
 add-k : tie.Need-add-k Inv-loop μ-loop
-add-k c = ?
+add-k c = omega (arith, c .before .before .before .loop-test .taken, (c .before .before .before .before .before .before .before) .pre .1 .few, (c .before .before .before .before .before .before .before) .pre .1 .count)
 
--- src/closing.rt:186:5
 loop-less : tie.Need-loop-less Inv-loop μ-loop
-loop-less c = ?
+loop-less c = omega (arith, c .before .before .before .loop-test .taken)
 
--- src/closing.rt:186:5
 loop-again : tie.Need-loop-again Inv-loop μ-loop
-loop-again c = ?
+loop-again c = (omega (arith, c .before .before .before .loop-test .taken), c .before .before .before .before .loop .inv .1)
 
--- src/closing.rt:192:52
 index-requires : tie.Need-index-requires Inv-loop μ-loop
-index-requires c κs = ?
+index-requires c κs = search needs
 
--- src/closing.rt:192:13
 find-requires : tie.Need-find-requires Inv-loop μ-loop
-find-requires c κs = ?
+find-requires c κs = let s = (c .before .before .before .before .before .before .before .before .before .before) in let L = unchanged-labels (c .before .before .before .before .before .before .before .loop .inv .1 .0) (s .pre .1) in let d = deref-record (termAt (s .args .terms .now)) (s .pre .0) L (omega (arith, c .before .before .before .before .before .before .loop-test .taken)) (c .before .before .before .before .before .term-at .ensures) (c .before .before .before .if1 .left) in ((L .links, labels-near L), rw (c .index .ensures) (d .1 .0))
 
--- src/closing.rt:193:9
 add-use-requires : tie.Need-add-use-requires Inv-loop μ-loop
-add-use-requires c κs = ?
+add-use-requires c κs = search needs
 
--- src/closing.rt:186:9
 add-k-2 : tie.Need-add-k-2 Inv-loop μ-loop
-add-k-2 c = ?
+add-k-2 c = omega (arith, c .before .before .before .before .before .before .before .before .before .before .before .before .before .before .loop-test .taken, (c .before .before .before .before .before .before .before .before .before .before .before .before .before .before .before .before .before .before) .pre .1 .few, (c .before .before .before .before .before .before .before .before .before .before .before .before .before .before .before .before .before .before) .pre .1 .count)
 
--- src/closing.rt:186:5
 loop-less-2 : tie.Need-loop-less-2 Inv-loop μ-loop
-loop-less-2 c = ?
+loop-less-2 c = omega (arith, c .before .before .before .before .before .before .before .before .before .before .before .before .before .before .loop-test .taken)
 
--- src/closing.rt:186:5
 loop-again-2 : tie.Need-loop-again-2 Inv-loop μ-loop
-loop-again-2 c = ?
+loop-again-2 c = (omega (arith, c .before .before .before .before .before .before .before .before .before .before .before .before .before .before .loop-test .taken), (unchanged-then (c .before .before .before .before .before .before .before .before .before .before .before .before .before .before .before .loop .inv .1 .0) (record { links = c .before .before .before .before .before .before .before .find .ensures .links; same = c .before .before .before .before .before .before .before .find .ensures .same; long = c .before .before .before .before .before .before .before .find .ensures .long }), (c .before .before .before .before .before .before .before .find .kept .1 .0 ∙ c .before .before .before .before .before .before .before .before .before .before .before .before .before .before .before .loop .inv .1 .1 .0, c .before .before .add-use .kept .0 ∙ c .before .before .before .before .before .before .before .before .before .before .before .before .before .before .before .loop .inv .1 .1 .1)))
 
--- src/closing.rt:182:1
 same-length : tie.Need-same-length Inv-loop μ-loop
-same-length c = ?
+same-length c = c .before .loop .inv .1 .0 .long
 
--- src/closing.rt:182:1
 same-length-2 : tie.Need-same-length-2 Inv-loop μ-loop
-same-length-2 c = ?
+same-length-2 c = c .before .loop .inv .1 .1 .0
 
--- src/closing.rt:182:1
 same-length-3 : tie.Need-same-length-3 Inv-loop μ-loop
-same-length-3 c = ?
+same-length-3 c = c .before .loop .inv .1 .1 .1
 
--- src/closing.rt:182:1
 returns : tie.Need-returns Inv-loop μ-loop
-returns c = ?
+returns c = c .before .loop .inv .1 .0
 
 pub list-uses-spec : {M : Type 1} → statement M
 list-uses-spec =

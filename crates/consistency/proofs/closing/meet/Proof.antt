@@ -1,92 +1,72 @@
+use lib.ListN.{length}
+use borrow.Author.Tests.{not-true, not-false}
+use Rattle.tables.specs.Rows.{termAt}
+use Rattle.consistency.specs.Labels.{unchanged-self, unchanged-labels, unchanged-then, labels-near}
+use Rattle.consistency.specs.Closing.{as-before, deref-record, reads-not, tested, met-joined, met-held, met-clashed, zero-within}
 use borrow.Author.Needs.{needs}
+
 use Rattle.consistency.proofs.closing.meet.Statement.{statement}
 use Rattle.consistency.proofs.closing.meet.Tie as tie
-use Rattle.consistency.proofs.closing.meet.Reads as reads
-use Rattle.consistency.proofs.closing.meet.Lts as lts
-use Rattle.consistency.proofs.closing.address.Reads as address-reads
-use Rattle.consistency.proofs.closing.reads.Reads as reads-reads
-use Rattle.tables.proofs.term_at.Reads as term-at-reads
-use Rattle.unionfind.proofs.join.Reads as join-reads
 
--- src/closing.rt:80:9
 term-at-requires : tie.Need-term-at-requires
 term-at-requires c κs = search needs
 
--- src/closing.rt:82:9
 returns : tie.Need-returns
-returns c = ?
+returns c = as-before (unchanged-self ((c .before .before .before .before) .pre .0 .1))
 
--- src/closing.rt:84:9
 address-requires : tie.Need-address-requires
-address-requires c κs = ?
+address-requires c κs = let s = (c .before .before .before .before .before .before) in deref-record (termAt (s .args .terms .now)) (s .pre .0 .0) (s .pre .0 .1) (s .pre .1 .0) (c .before .before .before .before .term-at .ensures) (c .before .before .if1 .left)
 
--- src/closing.rt:85:9
 reads-requires : tie.Need-reads-requires
-reads-requires c κs = ?
+reads-requires c κs = let s = (c .before .before .before .before .before .before .before .before .before .before .before .before) in (s .pre .0 .0, (unchanged-labels (c .before .before .before .before .before .address .ensures .unchanged) (s .pre .0 .1), s .pre .1 .1))
 
--- src/closing.rt:86:9
 same-length : tie.Need-same-length
 same-length c = search needs
 
--- src/closing.rt:86:9
 same-length-2 : tie.Need-same-length-2
 same-length-2 c = search needs
 
--- src/closing.rt:86:9
 returns-2 : tie.Need-returns-2
-returns-2 c = ?
+returns-2 c = as-before (unchanged-then (c .before .before .before .before .before .before .before .before .before .before .address .ensures .unchanged) (reads-not (rw (not-true (c .before .before .before .before .reads .result) (c .if2 .taken)) at (c .before .before .before .before .reads .ensures))))
 
--- src/closing.rt:88:11
 join-requires : tie.Need-join-requires
-join-requires c κs = ?
+join-requires c κs = let s = (c .before .before .before .before .before .before .before .before .before .before .before .before .before .before .before .before .before .before .before) in let t = tested (length (s .args .terms .now)) (termAt (s .args .terms .now)) (c .before .before .before .before .before .before .before .before .before .before .before .before .before .before .before .before .before .term-at .ensures) (c .before .before .before .before .before .before .before .before .before .before .before .before .before .before .before .if1 .left) (c .before .before .before .before .before .before .before .before .before .before .before .before .address .ensures) (rw (not-false (c .before .before .before .before .before .before .reads .result) (c .before .before .if2 .left)) at (c .before .before .before .before .before .before .reads .ensures)) in let L = unchanged-labels (t .unchanged) (s .pre .0 .1) in ((L .links, labels-near L), (rw (L .count) (s .pre .1 .0), (rw (L .count) (s .pre .1 .1), zero-within)))
 
--- src/closing.rt:89:28
 enum-told : tie.Need-enum-told
 enum-told c = search needs
 
--- src/closing.rt:90:26
 enum-told-2 : tie.Need-enum-told-2
 enum-told-2 c = search needs
 
--- src/closing.rt:91:29
 enum-told-3 : tie.Need-enum-told-3
 enum-told-3 c = search needs
 
--- src/closing.rt:69:1
 same-length-3 : tie.Need-same-length-3
 same-length-3 c = search needs
 
--- src/closing.rt:69:1
 same-length-4 : tie.Need-same-length-4
 same-length-4 c = search needs
 
--- src/closing.rt:69:1
 returns-3 : tie.Need-returns-3
-returns-3 c = ?
+returns-3 c = let s = (c .before .before .before .before .before .before .before .before .before .before .before .before .before .before .before .before .before .before .before .before .before .before .before .before .before) in let t = tested (length (s .args .terms .now)) (termAt (s .args .terms .now)) (c .before .before .before .before .before .before .before .before .before .before .before .before .before .before .before .before .before .before .before .before .before .before .before .term-at .ensures) (c .before .before .before .before .before .before .before .before .before .before .before .before .before .before .before .before .before .before .before .before .before .if1 .left) (c .before .before .before .before .before .before .before .before .before .before .before .before .before .before .before .before .before .before .address .ensures) (rw (not-false (c .before .before .before .before .before .before .before .before .before .before .before .before .reads .result) (c .before .before .before .before .before .before .before .before .if2 .left)) at (c .before .before .before .before .before .before .before .before .before .before .before .before .reads .ensures)) in met-joined (length (s .args .terms .now)) (termAt (s .args .terms .now)) (s .pre .0 .1) (s .pre .1 .0) (s .pre .1 .1) t (rw (c .enum-told .given .1) at (c .before .before .before .before .before .join .ensures))
 
--- src/closing.rt:69:1
 same-length-5 : tie.Need-same-length-5
 same-length-5 c = search needs
 
--- src/closing.rt:69:1
 same-length-6 : tie.Need-same-length-6
 same-length-6 c = search needs
 
--- src/closing.rt:69:1
 returns-4 : tie.Need-returns-4
-returns-4 c = ?
+returns-4 c = let s = (c .before .before .before .before .before .before .before .before .before .before .before .before .before .before .before .before .before .before .before .before .before .before .before .before .before) in let t = tested (length (s .args .terms .now)) (termAt (s .args .terms .now)) (c .before .before .before .before .before .before .before .before .before .before .before .before .before .before .before .before .before .before .before .before .before .before .before .term-at .ensures) (c .before .before .before .before .before .before .before .before .before .before .before .before .before .before .before .before .before .before .before .before .before .if1 .left) (c .before .before .before .before .before .before .before .before .before .before .before .before .before .before .before .before .before .before .address .ensures) (rw (not-false (c .before .before .before .before .before .before .before .before .before .before .before .before .reads .result) (c .before .before .before .before .before .before .before .before .if2 .left)) at (c .before .before .before .before .before .before .before .before .before .before .before .before .reads .ensures)) in met-held (length (s .args .terms .now)) (termAt (s .args .terms .now)) (s .pre .0 .1) (s .pre .1 .0) (s .pre .1 .1) t (rw (c .enum-told2 .given .1) at (c .before .before .before .before .before .join .ensures))
 
--- src/closing.rt:69:1
 same-length-7 : tie.Need-same-length-7
 same-length-7 c = search needs
 
--- src/closing.rt:69:1
 same-length-8 : tie.Need-same-length-8
 same-length-8 c = search needs
 
--- src/closing.rt:69:1
 returns-5 : tie.Need-returns-5
-returns-5 c = ?
+returns-5 c = let s = (c .before .before .before .before .before .before .before .before .before .before .before .before .before .before .before .before .before .before .before .before .before .before .before .before .before) in let t = tested (length (s .args .terms .now)) (termAt (s .args .terms .now)) (c .before .before .before .before .before .before .before .before .before .before .before .before .before .before .before .before .before .before .before .before .before .before .before .term-at .ensures) (c .before .before .before .before .before .before .before .before .before .before .before .before .before .before .before .before .before .before .before .before .before .if1 .left) (c .before .before .before .before .before .before .before .before .before .before .before .before .before .before .before .before .before .before .address .ensures) (rw (not-false (c .before .before .before .before .before .before .before .before .before .before .before .before .reads .result) (c .before .before .before .before .before .before .before .before .if2 .left)) at (c .before .before .before .before .before .before .before .before .before .before .before .before .reads .ensures)) in met-clashed (length (s .args .terms .now)) (termAt (s .args .terms .now)) (s .pre .0 .1) (s .pre .1 .0) (s .pre .1 .1) t (rw (c .enum-told3 .given .1) at (c .before .before .before .before .before .join .ensures))
 
 pub meet-spec : {M : Type 1} → statement M
 meet-spec =

@@ -1,51 +1,42 @@
-use borrow.Author.Needs.{needs}
+use Rattle.tables.specs.Rows.{termAt}
+use mir.Syntax.{w64}
+use mir.ValLaws.{toZ-ofZ}
+use borrow.Author.Needs.{needs, sfits-of}
+use Rattle.consistency.specs.Labels.{unchanged-self}
+use Rattle.consistency.specs.Closing.{does-not, deref-record, reads-by}
+
 use Rattle.consistency.proofs.closing.reads.Statement.{statement}
 use Rattle.consistency.proofs.closing.reads.Tie as tie
-use Rattle.consistency.proofs.closing.reads.Reads as reads
-use Rattle.consistency.proofs.closing.reads.Lts as lts
-use Rattle.consistency.proofs.closing.address.Reads as address-reads
-use Rattle.offsets.proofs.is_same.Reads as is-same-reads
-use Rattle.tables.proofs.term_at.Reads as term-at-reads
 
--- src/closing.rt:57:9
 term-at-requires : tie.Need-term-at-requires
 term-at-requires c κs = search needs
 
--- src/closing.rt:59:9
 returns : tie.Need-returns
-returns c = ?
+returns c = does-not (unchanged-self ((c .before .before .before .before) .pre .1 .0))
 
--- src/closing.rt:61:9
 address-requires : tie.Need-address-requires
-address-requires c κs = ?
+address-requires c κs = let s = (c .before .before .before .before .before .before) in deref-record (termAt (s .args .terms .now)) (s .pre .0) (s .pre .1 .0) (s .pre .1 .1) (c .before .before .before .before .term-at .ensures) (c .before .before .if1 .left)
 
--- src/closing.rt:63:9
 same-length : tie.Need-same-length
 same-length c = search needs
 
--- src/closing.rt:63:9
 same-length-2 : tie.Need-same-length-2
 same-length-2 c = search needs
 
--- src/closing.rt:63:9
 returns-2 : tie.Need-returns-2
-returns-2 c = ?
+returns-2 c = does-not (c .before .before .before .before .before .before .address .ensures .unchanged)
 
--- src/closing.rt:65:5
 is-same-requires : tie.Need-is-same-requires
 is-same-requires c κs = search needs
 
--- src/closing.rt:47:1
 same-length-3 : tie.Need-same-length-3
 same-length-3 c = search needs
 
--- src/closing.rt:47:1
 same-length-4 : tie.Need-same-length-4
 same-length-4 c = search needs
 
--- src/closing.rt:47:1
 returns-3 : tie.Need-returns-3
-returns-3 c = ?
+returns-3 c = reads-by (c .before .before .before .before .before .before .before .before .before .before .before .before .before .before .term-at .ensures) (c .before .before .before .before .before .before .before .before .before .before .before .before .if1 .left) (c .before .before .before .before .before .before .before .before .before .address .ensures) (c .before .before .before .if2 .left) (c .is-same .result) (rw (toZ-ofZ w64 ((c .before .before .before .before .before .before .before .before .before .before .before .before .before .before .before .before) .args .at .offset) (sfits-of (c .before .before .struct-told .given .1 .0 .1)), toZ-ofZ w64 (c .before .before .before .before .before .before .before .before .before .address .result .offset) (sfits-of (c .before .struct-told2 .given .1 .0 .1))) at (c .is-same .ensures))
 
 pub reads-spec : {M : Type 1} → statement M
 reads-spec =
