@@ -8,6 +8,8 @@ use crate::uses::join_uses;
 use crate::uses::pop;
 use crate::uses::set_slot;
 use crate::uses::slot;
+use lastlook::Look;
+use lastlook::unequal_pair;
 use offsets::is_same;
 use offsets::sum;
 use tables::TermRow;
@@ -18,6 +20,7 @@ use types::TermRecord;
 use unionfind::Joining;
 use unionfind::Root;
 use unionfind::find;
+use unionfind::flatten;
 use unionfind::join;
 ghost use Prim.Native.Nat.{_<_};
 ghost use lib.ListN.{length};
@@ -179,7 +182,7 @@ fn step(
 }
 
 // Lists the dereferences over each class, and puts all on the stack, the lowest on top.
-pub(crate) fn list_uses(terms: &[TermRow], parents: &mut [u32], offs: &mut [i64], notes: &mut [u32])
+fn list_uses(terms: &[TermRow], parents: &mut [u32], offs: &mut [i64], notes: &mut [u32])
     requires { ⌜ AcceptedTerms (length (now terms)) (termAt (now terms)) × Labels (length (now terms)) (now parents) (now offs) ⌝ }
     ensures { λ _. ⌜ Unchanged (before parents) (before offs) (after parents) (after offs) ⌝ }
 {
@@ -195,7 +198,7 @@ pub(crate) fn list_uses(terms: &[TermRow], parents: &mut [u32], offs: &mut [i64]
 }
 
 // Looks at the dereferences on the stack until it is empty, or two clash, or 8,192 were looked at.
-pub(crate) fn chase(
+fn chase(
     terms: &[TermRow],
     parents: &mut [u32],
     offs: &mut [i64],
@@ -221,3 +224,34 @@ pub(crate) fn chase(
     true
 }
 
+// Joins what the last look finds until it finds nothing; or two of one class that differ.
+fn settle(terms: &[TermRow], parents: &mut [u32], offs: &mut [i64]) -> bool
+    requires { ⌜ AcceptedTerms (length (now terms)) (termAt (now terms)) × Labels (length (now terms)) (now parents) (now offs) ⌝ }
+    ensures { λ r. ⌜ Closing (length (before terms)) (termAt (before terms)) (before parents) (before offs) (after parents) (after offs) r ⌝ }
+{
+    loop {
+        flatten(parents, offs);
+        match unequal_pair(terms, parents, offs) {
+            Look::Closed => return true,
+            Look::Pair(x, y) => match join(parents, offs, x, 0, y) {
+                Joining::Joined => continue,
+                Joining::Held => return false,
+                Joining::Clashed => return false,
+            },
+        }
+    }
+}
+
+// Joins dereferences of one address until all agree, and leaves the labels in the columns; or finds two of one class that differ.
+pub(crate) fn close(terms: &[TermRow], parents: &mut [u32], offs: &mut [i64]) -> bool
+    requires { ⌜ AcceptedTerms (length (now terms)) (termAt (now terms)) × Labels (length (now terms)) (now parents) (now offs) ⌝ }
+    ensures { λ r. ⌜ Closing (length (before terms)) (termAt (before terms)) (before parents) (before offs) (after parents) (after offs) r ⌝ }
+{
+    let mut notes = [0u32; 8192];
+    let mut shifts = [0u64; 512];
+    list_uses(terms, parents, offs, &mut notes);
+    if !chase(terms, parents, offs, &mut notes, &mut shifts) {
+        return false;
+    }
+    settle(terms, parents, offs)
+}
