@@ -1,0 +1,34 @@
+-- `reading::faulty_line` meets its contract.
+use Prim.Native.Nat.{_+_, _-_}
+use mathlib.Core.Path.{_≡_, refl}
+use native.Mathlib.Omega.{arith}
+use Rattle.reading.specs.Answers.{handed-back}
+use borrow.Author.Needs.{needs}
+use Rattle.reading.proofs.faulty_line.Statement.{statement}
+use Rattle.reading.proofs.faulty_line.Tie as tie
+
+faulty-part-requires : tie.Need-faulty-part-requires
+faulty-part-requires c κs = search needs
+
+add-end : tie.Need-add-end
+add-end c = search needs
+
+sub-result : tie.Need-sub-result
+sub-result c = search needs
+
+part-result-start : tie.Need-part-result-start
+part-result-start c = search needs
+
+part-result-end : tie.Need-part-result-end
+part-result-end c = search needs
+
+returns : tie.Need-returns
+returns c =
+    let p = c .before .before .faulty-part in
+    let size : p .result .start + p .result .size - p .result .start ≡ p .result .size = omega arith in
+    handed-back _ _ _ (p .result) (p .ensures) refl (rw size)
+
+pub faulty-line-spec : {M : Type 1} → statement M
+faulty-line-spec =
+    tie.close
+    (tie.spec faulty-part-requires add-end sub-result part-result-start part-result-end returns)

@@ -1,0 +1,32 @@
+-- `reading::faulty_part` meets its contract: the part is that of the refused line, or empty at the start.
+use mathlib.Core.Path.{sym, _∙_}
+use Rattle.reading.specs.Answers.{part-short, part-refused, part-accepted}
+use borrow.Author.Needs.{needs}
+use Rattle.reading.proofs.faulty_part.Statement.{statement}
+use Rattle.reading.proofs.faulty_part.Tie as tie
+
+short-requires : tie.Need-short-requires
+short-requires c κs = search needs
+
+returns : tie.Need-returns
+returns c = part-short _ _ _ _ (sym (c .before .short .ensures) ∙ c .if1 .taken)
+
+judge-requires : tie.Need-judge-requires
+judge-requires c κs = search needs
+
+enum-known-part : tie.Need-enum-known-part
+enum-known-part c = search needs
+
+enum-told : tie.Need-enum-told
+enum-told c = search needs
+
+returns-2 : tie.Need-returns-2
+returns-2 c = part-refused _ _ _ _ (sym (c .before .before .before .before .before .short .ensures) ∙ c .before .before .before .before .if1 .left) _ _ (sym (c .before .part .given .1) ∙ c .before .before .before .judge .ensures .answer) (rw (c .before .part .given .1) at (c .before .before .before .judge .ensures .within))
+
+returns-3 : tie.Need-returns-3
+returns-3 c = part-accepted _ _ _ _ (sym (c .before .before .before .before .short .ensures) ∙ c .before .before .before .if1 .left) _ (sym (c .enum-told .given .1) ∙ c .before .before .judge .ensures .answer)
+
+pub faulty-part-spec : {M : Type 1} → statement M
+faulty-part-spec =
+    tie.close
+    (tie.spec short-requires returns judge-requires enum-known-part enum-told returns-2 returns-3)

@@ -1,0 +1,152 @@
+-- `reading::load::load` meets its contract: the lines passed are taken into the rows (`Progress`), and no table changes its length.
+use Prim.Native.Nat.{_-_}
+use mathlib.Core.Path.{refl, _∙_}
+use native.Mathlib.Omega.{arith}
+use borrow.Author.Needs.{needs}
+use lib.ListN.{length}
+use Rattle.text.specs.Reading.{step}
+use Rattle.lines.specs.LineEnds.{lineOf, lineEnd, end-after, end-within}
+use Rattle.reading.specs.Rows.{Rows, rows, Sized, room-sized}
+use Rattle.reading.specs.Loading.{After}
+use Rattle.reading.specs.Progress.{Progress, progress-none, progress-refused, progress-more, progress-all}
+use Rattle.reading.proofs.load.load.Statement.{statement}
+use Rattle.reading.proofs.load.load.Tie as tie
+
+abbrev Inv-loop : tie.InvT-loop
+Inv-loop text terms₀ propositions₀ questions₀ counts₀ start₀ frame₀ terms propositions questions counts start frame =
+    Progress text (rows terms₀ propositions₀ questions₀) (rows terms propositions questions) counts start frame
+    × Sized (rows terms₀ propositions₀ questions₀) (rows terms propositions questions)
+
+abbrev μ-loop : tie.MeasureT-loop
+μ-loop text terms₀ propositions₀ questions₀ counts₀ start₀ frame₀ terms propositions questions counts start frame =
+    length text - start
+
+-- the rows as they were lent, and after a call of `take_line`
+abbrev lent : tie.After-take-line Inv-loop μ-loop → Rows
+lent c = let a = c .before .before .before .before .before .before .before .before .before .args in rows (a .terms .now) (a .propositions .now) (a .questions .now)
+
+abbrev now : tie.After-take-line Inv-loop μ-loop → Rows
+now c = let l = c .take-line .last .1 .1 .1 in rows (l .0) (l .1 .0) (l .1 .1 .0)
+
+sized : (c : tie.After-take-line Inv-loop μ-loop) → Sized (lent c) (now c)
+sized c =
+    let k = c .take-line .kept .1 .1 .1 in
+    let s = c .before .before .before .before .before .before .before .loop .inv .1 in
+    record { terms = k .0 ∙ s .terms; propositions = k .1 .0 ∙ s .propositions; questions = k .1 .1 .0 ∙ s .questions }
+
+-- what the line leaves
+stepped : (c : tie.After-take-line Inv-loop μ-loop)
+    → (let text = c .before .before .before .before .before .before .before .before .before .args .text .now in
+    let l = c .before .before .before .before .before .before .before .loop in
+    After (lent c) (step (l .inv .0 .records) (lineOf text (l .start) (lineEnd text (l .start)))) (c .take-line .result) (now c))
+stepped c =
+    let p = c .before .before .before .before .before .before .before .loop .inv .0 in
+    rw (← c .before .before .before .before .before .line-end .ensures) (c .take-line .ensures (p .records) _ (c .before .before .before .before .before .before .before .before .before .pre) (p .counts) (p .cells))
+
+loop-holds : tie.Need-loop-holds Inv-loop μ-loop
+loop-holds c = (progress-none _ _, record { terms = refl; propositions = refl; questions = refl })
+
+line-end-requires : tie.Need-line-end-requires Inv-loop μ-loop
+line-end-requires c κs = c .before .loop .inv .0 .within
+
+sub-take-line : tie.Need-sub-take-line Inv-loop μ-loop
+sub-take-line c = rw (c .line-end .ensures) (end-after _ (c .before .before .loop .start))
+
+part-take-line-start : tie.Need-part-take-line-start Inv-loop μ-loop
+part-take-line-start c = rw (c .line-end .ensures) (end-after _ (c .before .before .loop .start))
+
+part-take-line-end : tie.Need-part-take-line-end Inv-loop μ-loop
+part-take-line-end c = rw (c .line-end .ensures) (end-within _ (c .before .before .loop .start) (c .before .before .loop .inv .0 .within))
+
+take-line-requires : tie.Need-take-line-requires Inv-loop μ-loop
+take-line-requires c κs = room-sized (c .before .before .before .before .before .before .before .before .pre) (c .before .before .before .before .before .before .loop .inv .1)
+
+enum-known-refusal : tie.Need-enum-known-refusal Inv-loop μ-loop
+enum-known-refusal c = search needs
+
+sub-size : tie.Need-sub-size Inv-loop μ-loop
+sub-size c = rw (c .before .before .before .before .before .before .before .before .before .before .before .line-end .ensures) (end-after _ (c .before .before .before .before .before .before .before .before .before .before .before .before .before .loop .start))
+
+same-length : tie.Need-same-length Inv-loop μ-loop
+same-length c = sized (c .before .before .before .before .before .before) .terms
+
+same-length-2 : tie.Need-same-length-2 Inv-loop μ-loop
+same-length-2 c = sized (c .before .before .before .before .before .before) .propositions
+
+same-length-3 : tie.Need-same-length-3 Inv-loop μ-loop
+same-length-3 c = sized (c .before .before .before .before .before .before) .questions
+
+returns : tie.Need-returns Inv-loop μ-loop
+returns c =
+    let k = c .before .before .before .before .before .before in
+    let l = k .before .before .before .before .before .before .before .loop in
+    rw (k .before .before .before .before .before .line-end .ensures)
+    (progress-refused _ _ _ _ (l .start) (l .frame) (l .inv .0) (k .before .before .before .before .before .before .loop-test .taken) _ _ (rw (c .before .refusal .given .1) at (stepped k)))
+
+enum-known-more : tie.Need-enum-known-more Inv-loop μ-loop
+enum-known-more c = search needs
+
+add-start : tie.Need-add-start Inv-loop μ-loop
+add-start c =
+    let l = c .before .before .before .before .before .before .before .before .before .before .before .before .before .loop in
+    let s = c .before .before .before .before .before .before .before .before .before .before .before .before .before .before .before in
+    omega (arith, c .before .before .before .before .before .before .before .before .before .before .before .line-end .ensures, end-within (s .args .text .now) (l .start) (l .inv .0 .within), s .good .0 .1)
+
+add-frame : tie.Need-add-frame Inv-loop μ-loop
+add-frame c =
+    let l = c .before .before .before .before .before .before .before .before .before .before .before .before .before .loop in
+    omega (arith, l .inv .0 .few, c .before .before .before .before .before .before .before .before .before .before .before .before .loop-test .taken, c .before .before .before .before .before .before .before .before .before .before .before .before .before .before .before .good .0 .0)
+
+loop-less : tie.Need-loop-less Inv-loop μ-loop
+loop-less c =
+    let l = c .before .before .before .before .before .before .before .before .before .before .before .before .before .loop in
+    omega (arith, c .before .before .before .before .before .before .before .before .before .before .before .line-end .ensures, end-after (c .before .before .before .before .before .before .before .before .before .before .before .before .before .before .before .args .text .now) (l .start), c .before .before .before .before .before .before .before .before .before .before .before .before .loop-test .taken)
+
+loop-again : tie.Need-loop-again Inv-loop μ-loop
+loop-again c =
+    let k = c .before .before .before .before .before .before in
+    let l = k .before .before .before .before .before .before .before .loop in (
+      rw (k .before .before .before .before .before .line-end .ensures)
+          (progress-more _ _ _ _ (l .start) (l .frame) (l .inv .0) (k .before .before .before .before .before .before .loop-test .taken) _ _ (rw (c .before .more .given .1) at (stepped k))),
+      sized k,
+    )
+
+same-length-4 : tie.Need-same-length-4 Inv-loop μ-loop
+same-length-4 c = c .before .loop .inv .1 .terms
+
+same-length-5 : tie.Need-same-length-5 Inv-loop μ-loop
+same-length-5 c = c .before .loop .inv .1 .propositions
+
+same-length-6 : tie.Need-same-length-6 Inv-loop μ-loop
+same-length-6 c = c .before .loop .inv .1 .questions
+
+returns-2 : tie.Need-returns-2 Inv-loop μ-loop
+returns-2 c = progress-all _ _ _ _ _ _ (c .before .loop .inv .0) (omega arith)
+
+pub load-spec : {M : Type 1} → statement M
+load-spec =
+    tie.close
+    (tie.spec
+    Inv-loop
+    μ-loop
+    loop-holds
+    line-end-requires
+    sub-take-line
+    part-take-line-start
+    part-take-line-end
+    take-line-requires
+    enum-known-refusal
+    sub-size
+    same-length
+    same-length-2
+    same-length-3
+    returns
+    enum-known-more
+    add-start
+    add-frame
+    loop-less
+    loop-again
+    same-length-4
+    same-length-5
+    same-length-6
+    returns-2)

@@ -1,0 +1,75 @@
+-- `reading::load::take_line` meets its contract: the refusal, or the stored record, is that of the definition's step.
+use mathlib.Core.Path.{sym, _∙_}
+use borrow.Author.Tests.{not-true, not-false}
+use Rattle.text.specs.Laws.{step-unended}
+use Rattle.reading.specs.Rows.{listing-written}
+use Rattle.reading.specs.Loading.{step-refused, went}
+use borrow.Author.Needs.{needs}
+use Rattle.reading.proofs.load.take_line.Statement.{statement}
+use Rattle.reading.proofs.load.take_line.Tie as tie
+
+returns : tie.Need-returns
+returns c R C room n e = rw (not-true (c .before .before .args .ended) (c .if1 .taken)) (step-unended R _)
+
+judge-line-requires : tie.Need-judge-line-requires
+judge-line-requires c κs = search needs
+
+take-frame-requires : tie.Need-take-frame-requires
+take-frame-requires c κs = search needs
+
+enum-known-refusal : tie.Need-enum-known-refusal
+enum-known-refusal c = search needs
+
+enum-told : tie.Need-enum-told
+enum-told c = search needs
+
+store-requires : tie.Need-store-requires
+store-requires c κs = (rw (c .before .before .before .enum-told .given .1) at (c .before .before .before .before .before .take-frame .ensures .room), c .before .before .before .before .before .before .before .before .before .before .pre)
+
+same-length : tie.Need-same-length
+same-length c = search needs
+
+returns-2 : tie.Need-returns-2
+returns-2 c R C room n e =
+    let frame = c .before .before .before .before .before .judge-line in
+    let t = c .before .before .before .take-frame .ensures .fault R n (listing-written R C e) in
+    rw (not-false (c .before .before .before .before .before .before .before .before .args .ended) (c .before .before .before .before .before .before .if1 .left)) (step-refused R _ (frame .result) (frame .ensures) _ (sym (c .before .refusal .given .1) ∙ t))
+
+same-length-2 : tie.Need-same-length-2
+same-length-2 c = search needs
+
+same-length-3 : tie.Need-same-length-3
+same-length-3 c = search needs
+
+same-length-4 : tie.Need-same-length-4
+same-length-4 c = search needs
+
+returns-3 : tie.Need-returns-3
+returns-3 c R C room n e =
+    let stored = c .before .before .before in
+    let told = stored .before .before .before .before in
+    let took = told .before .before .take-frame .ensures in
+    let judged = told .before .before .before .before .judge-line in
+    let start = told .before .before .before .before .before .before .before in
+    rw (not-false (start .args .ended) (told .before .before .before .before .before .if1 .left))
+    (went R C _ (judged .result) (start .args .counts) _ _ _ room n e (judged .ensures)
+    (sym (told .enum-told .given .1) ∙ took .fault R n (listing-written R C e))
+    (rw (told .enum-told .given .1) at (took .room))
+    (stored .store .ensures))
+
+pub take-line-spec : {M : Type 1} → statement M
+take-line-spec =
+    tie.close
+    (tie.spec
+    returns
+    judge-line-requires
+    take-frame-requires
+    enum-known-refusal
+    enum-told
+    store-requires
+    same-length
+    returns-2
+    same-length-2
+    same-length-3
+    same-length-4
+    returns-3)

@@ -1,0 +1,7 @@
+-- A frame after the records read so far (Taking), stored in rows (Rows); lines one after another (Loading, Progress); the answers of
+-- `read` and `faulty_line` (Answers).
+pub mod Taking
+pub mod Rows
+pub mod Loading
+pub mod Progress
+pub mod Answers
