@@ -59,32 +59,20 @@ pub(crate) fn load(
         questions: 0,
     };
     let mut start = 0;
-    let mut frame = 0;
+    let mut place = 0;
     while start < text.len() {
         let end = line_end(text, start);
+        let line = &text[start..end];
         let ended = end < text.len();
-        match take_line(
-            &text[start..end],
-            ended,
-            counts,
-            terms,
-            propositions,
-            questions,
-        ) {
+        match take_line(line, ended, counts, terms, propositions, questions) {
             Next::Refused(refusal) => {
                 let size = end - start;
-                return Loaded::Refused(
-                    Fault {
-                        refusal,
-                        place: frame,
-                    },
-                    FaultyPart { start, size },
-                );
+                return Loaded::Refused(Fault { refusal, place }, FaultyPart { start, size });
             }
             Next::Accepted(more) => counts = more,
         }
         start = end + 1;
-        frame += 1;
+        place += 1;
     }
     Loaded::Accepted(counts)
 }

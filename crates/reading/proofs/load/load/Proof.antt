@@ -13,12 +13,12 @@ use Rattle.reading.proofs.load.load.Statement.{statement}
 use Rattle.reading.proofs.load.load.Tie as tie
 
 abbrev Inv-loop : tie.InvT-loop
-Inv-loop text terms₀ propositions₀ questions₀ counts₀ start₀ frame₀ terms propositions questions counts start frame =
-    Progress text (rows terms₀ propositions₀ questions₀) (rows terms propositions questions) counts start frame
+Inv-loop text terms₀ propositions₀ questions₀ counts₀ start₀ place₀ terms propositions questions counts start place =
+    Progress text (rows terms₀ propositions₀ questions₀) (rows terms propositions questions) counts start place
     × Sized (rows terms₀ propositions₀ questions₀) (rows terms propositions questions)
 
 abbrev μ-loop : tie.MeasureT-loop
-μ-loop text terms₀ propositions₀ questions₀ counts₀ start₀ frame₀ terms propositions questions counts start frame =
+μ-loop text terms₀ propositions₀ questions₀ counts₀ start₀ place₀ terms propositions questions counts start place =
     length text - start
 
 -- the rows as they were lent, and after a call of `take_line`
@@ -49,14 +49,14 @@ loop-holds c = (progress-none _ _, record { terms = refl; propositions = refl; q
 line-end-requires : tie.Need-line-end-requires Inv-loop μ-loop
 line-end-requires c κs = c .before .loop .inv .0 .within
 
-sub-take-line : tie.Need-sub-take-line Inv-loop μ-loop
-sub-take-line c = rw (c .line-end .ensures) (end-after _ (c .before .before .loop .start))
+sub-line : tie.Need-sub-line Inv-loop μ-loop
+sub-line c = rw (c .line-end .ensures) (end-after _ (c .before .before .loop .start))
 
-part-take-line-start : tie.Need-part-take-line-start Inv-loop μ-loop
-part-take-line-start c = rw (c .line-end .ensures) (end-after _ (c .before .before .loop .start))
+part-line-start : tie.Need-part-line-start Inv-loop μ-loop
+part-line-start c = rw (c .line-end .ensures) (end-after _ (c .before .before .loop .start))
 
-part-take-line-end : tie.Need-part-take-line-end Inv-loop μ-loop
-part-take-line-end c = rw (c .line-end .ensures) (end-within _ (c .before .before .loop .start) (c .before .before .loop .inv .0 .within))
+part-line-end : tie.Need-part-line-end Inv-loop μ-loop
+part-line-end c = rw (c .line-end .ensures) (end-within _ (c .before .before .loop .start) (c .before .before .loop .inv .0 .within))
 
 take-line-requires : tie.Need-take-line-requires Inv-loop μ-loop
 take-line-requires c κs = room-sized (c .before .before .before .before .before .before .before .before .pre) (c .before .before .before .before .before .before .loop .inv .1)
@@ -81,7 +81,7 @@ returns c =
     let k = c .before .before .before .before .before .before in
     let l = k .before .before .before .before .before .before .before .loop in
     rw (k .before .before .before .before .before .line-end .ensures)
-    (progress-refused _ _ _ _ (l .start) (l .frame) (l .inv .0) (k .before .before .before .before .before .before .loop-test .taken) _ _ (rw (c .before .refusal .given .1) at (stepped k)))
+    (progress-refused _ _ _ _ (l .start) (l .place) (l .inv .0) (k .before .before .before .before .before .before .loop-test .taken) _ _ (rw (c .before .refusal .given .1) at (stepped k)))
 
 enum-known-more : tie.Need-enum-known-more Inv-loop μ-loop
 enum-known-more c = search needs
@@ -92,8 +92,8 @@ add-start c =
     let s = c .before .before .before .before .before .before .before .before .before .before .before .before .before .before .before in
     omega (arith, c .before .before .before .before .before .before .before .before .before .before .before .line-end .ensures, end-within (s .args .text .now) (l .start) (l .inv .0 .within), s .good .0 .1)
 
-add-frame : tie.Need-add-frame Inv-loop μ-loop
-add-frame c =
+add-place : tie.Need-add-place Inv-loop μ-loop
+add-place c =
     let l = c .before .before .before .before .before .before .before .before .before .before .before .before .before .loop in
     omega (arith, l .inv .0 .few, c .before .before .before .before .before .before .before .before .before .before .before .before .loop-test .taken, c .before .before .before .before .before .before .before .before .before .before .before .before .before .before .before .good .0 .0)
 
@@ -107,7 +107,7 @@ loop-again c =
     let k = c .before .before .before .before .before .before in
     let l = k .before .before .before .before .before .before .before .loop in (
       rw (k .before .before .before .before .before .line-end .ensures)
-          (progress-more _ _ _ _ (l .start) (l .frame) (l .inv .0) (k .before .before .before .before .before .before .loop-test .taken) _ _ (rw (c .before .more .given .1) at (stepped k))),
+          (progress-more _ _ _ _ (l .start) (l .place) (l .inv .0) (k .before .before .before .before .before .before .loop-test .taken) _ _ (rw (c .before .more .given .1) at (stepped k))),
       sized k,
     )
 
@@ -131,9 +131,9 @@ load-spec =
     μ-loop
     loop-holds
     line-end-requires
-    sub-take-line
-    part-take-line-start
-    part-take-line-end
+    sub-line
+    part-line-start
+    part-line-end
     take-line-requires
     enum-known-refusal
     sub-size
@@ -143,7 +143,7 @@ load-spec =
     returns
     enum-known-more
     add-start
-    add-frame
+    add-place
     loop-less
     loop-again
     same-length-4
