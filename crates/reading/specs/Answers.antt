@@ -77,6 +77,15 @@ enough-room C e =
     let b = or-false _ _ (a .0) in
     record { terms = ltb-false _ _ (b .0); propositions = ltb-false _ _ (b .1); questions = ltb-false _ _ (a .1) }
 
+-- a text is accepted by its own answer
+pub read-into : (text : List ℕ) (C : Rows) (R : Records) → readInto C text ≡ accepted R → reading text ≡ accepted R
+unfolding readInto
+read-into text C R = go (shortRows C)
+  where
+    go : (b : Bool) → choose b (refused tooShort) (reading text) ≡ accepted R → reading text ≡ accepted R
+    go true e = let z : _≡_ {A = ℕ} 0 1 = cc in absurd (omega arith)
+    go false e = e
+
 -- the answers of `read` from those of its tests
 module _ (text : List ℕ) (C : Rows) where
   pub read-short : shortRows C ≡ true → ReadAs text C (Refused tooShort) C

@@ -1,0 +1,102 @@
+-- The rows that an accepted text leaves hold its records.
+use Prim.Native.Nat.{ℕ, zero, suc, _+_, _<_, _≤_}
+use mathlib.Core.Path.{_≡_, refl, _∙_, ap}
+use mathlib.Core.List.{List, [], _∷_, map}
+use mathlib.Core.Option.{none, some}
+use native.Mathlib.Omega.{arith}
+use lib.ListN.{length, take, drop, getD, length-map, List·getD-append}
+use mir.Syntax.{w64}
+use mir.Val.{SFits}
+use mir.ValLaws.{toZ-ofZ}
+use Rattle.lists.specs.Items.{Item, item-below, item-map}
+use Rattle.lists.specs.Tabulate.{tabulate}
+use Rattle.types.specs.declared.QuestionRecord.{QuestionRecord}
+use Rattle.rules.specs.Terms.{Term, variable, auxiliary, deref, Comparison}
+use Rattle.offsets.specs.Fits.{within-fits}
+use Rattle.tables.specs.Records.{TermRecord, PropositionRecord, termOf, propositionOf, questionOf, offsetInRange}
+use Rattle.tables.specs.Stands.{StandsFor, stands-for, deref-within, asserts, in-range, when-some}
+use Rattle.tables.specs.Refusals.{termFault, propositionFault, questionFault}
+use Rattle.tables.specs.RefusalLaws.{orElse-none, malformed-none}
+use Rattle.tables.specs.Rows.{Row, termOfRow, termRow, termAt, propositionOfRow, propositionRow, propositionAt, questionOfRow, questionRow, questionAt}
+use Rattle.tables.specs.QuestionTable.{asked}
+use Rattle.tables.specs.Call.{overwrite}
+use Rattle.text.specs.Reading.{Records}
+use Rattle.text.specs.Sound.{Sound}
+use Rattle.reading.specs.Rows.{Rows, asking, written}
+
+-- the offset of a record without fault fits its field
+term-fits : (earlier : List TermRecord) (r : TermRecord) → termFault earlier r ≡ none → SFits w64 (r .offset)
+unfolding termFault
+term-fits earlier r e =
+    let well = malformed-none (termOf r) (orElse-none _ _ e .0) in
+    go (well .0) (well .1) (stands-for r (well .0) (well .1))
+  where
+    go : (x : Term) → termOf r ≡ some x → StandsFor r x → SFits w64 (r .offset)
+    go (variable n) e s = rw (s .offset) (record { sfits = omega arith })
+    go (auxiliary n) e s = rw (s .offset) (record { sfits = omega arith })
+    go (deref z t) e s = within-fits (omega arith) (deref-within r (deref z t) e (s .kind))
+
+proposition-fits : (n : ℕ) (p : PropositionRecord) → propositionFault n p ≡ none → SFits w64 (p .offset)
+unfolding propositionFault
+proposition-fits n p e =
+    let well = malformed-none (propositionOf p) (orElse-none _ _ e .0) in
+    within-fits (omega arith) (asserts p (well .0) (well .1) .within)
+
+question-fits : (n : ℕ) (q : Comparison) → questionFault n q ≡ none → SFits w64 (q .offset)
+unfolding questionFault questionOf
+question-fits n q e =
+    let well = malformed-none (questionOf q) (orElse-none _ _ e .0) in
+    within-fits (omega arith) (in-range (q .offset) (when-some (offsetInRange (q .offset)) q (well .0) (well .1) .0))
+
+-- a row read back
+term-back : (r : TermRecord) → SFits w64 (r .offset) → termOfRow (termRow r) ≡ r
+unfolding termOfRow termRow
+term-back r f = rw (toZ-ofZ w64 (r .offset) f)
+
+proposition-back : (p : PropositionRecord) → SFits w64 (p .offset) → propositionOfRow (propositionRow p) ≡ p
+unfolding propositionOfRow propositionRow
+proposition-back p f = rw (toZ-ofZ w64 (p .offset) f)
+
+question-back : (q : QuestionRecord) → SFits w64 (q .offset) → questionOfRow (questionRow q) ≡ q
+unfolding questionOfRow questionRow
+question-back q f = rw (toZ-ofZ w64 (q .offset) f)
+
+module _ {A B : Type 0} (f : A → B) (rs : List A) (old : List B) (d : B) where
+  overwrite-at : (k : ℕ) (x : A) → Item rs k x → getD (overwrite (map f rs) old) k d ≡ f x
+  overwrite-at k x i =
+      let h : k < length (map f rs) = rw (length-map rs f) (item-below rs k i) in
+      List·getD-append (map f rs) (drop (length (map f rs)) old) d k h ∙ item-map f rs k d i
+
+module _ (R : Records) (C : Rows) (s : Sound R) where
+  -- record k of each table is the text's
+  pub term-held : (k : ℕ) (x : TermRecord) → Item (R .terms) k x → termAt (written R C .terms) k ≡ x
+  unfolding written
+  term-held k x i = ap termOfRow (overwrite-at termRow (R .terms) (C .terms) [] k x i) ∙ term-back x (term-fits _ x (s .terms k x i))
+
+  pub proposition-held : (k : ℕ) (x : PropositionRecord) → Item (R .propositions) k x → propositionAt (written R C .propositions) k ≡ x
+  unfolding written
+  proposition-held k x i =
+      ap propositionOfRow (overwrite-at propositionRow (R .propositions) (C .propositions) [] k x i)
+      ∙ proposition-back x (proposition-fits _ x (s .propositions k x i))
+
+  pub question-held : (k : ℕ) (x : Comparison) → Item (R .questions) k x → asked (questionAt (written R C .questions) k) ≡ x
+  unfolding written
+  question-held k x i =
+      ap (λ (r : Row). asked (questionOfRow r)) (overwrite-at (λ q. questionRow (asking q)) (R .questions) (C .questions) [] k x i)
+      ∙ ap asked (question-back (asking x) (question-fits _ x (s .questions k x i)))
+
+  -- the first n term records
+  pub front-held : (n : ℕ) → n ≤ length (R .terms) → tabulate (termAt (written R C .terms)) 0 n ≡ take n (R .terms)
+  unfolding tabulate
+  front-held n h = from 0 n (R .terms) h (λ k x i. let z : 0 + k ≡ k = omega arith in rw z (term-held k x i))
+    where
+      from : (k n : ℕ) (l : List TermRecord)
+          → n ≤ length l
+          → ((i : ℕ) (x : TermRecord) → Item l i x → termAt (written R C .terms) (k + i) ≡ x)
+          → tabulate (termAt (written R C .terms)) k n ≡ take n l
+      from k zero l h e = refl
+      from k (suc n) [] h e = absurd (omega arith)
+      from k (suc n) (x ∷ l) h e =
+          let z : k + 0 ≡ k = omega arith in
+          let here : termAt (written R C .terms) k ≡ x = rw z at (e 0 x refl) in
+          rw (here, from (suc k) n l (omega arith) (λ i y j. let m : suc k + i ≡ k + suc i = omega arith in rw m (e (suc i) y j)))
