@@ -1,6 +1,6 @@
 -- The solver does not refuse the tables that an accepted text leaves.
 use Prim.Native.Nat.{ℕ, _≤_}
-use mathlib.Core.Path.{_≡_, refl, ap}
+use mathlib.Core.Path.{_≡_, refl}
 use mathlib.Core.List.{List, map}
 use mathlib.Core.Option.{none}
 use native.Mathlib.Omega.{arith}
@@ -13,14 +13,14 @@ use Rattle.rules.specs.Terms.{Comparison}
 use Rattle.tables.specs.Limits.{most}
 use Rattle.tables.specs.Records.{TermRecord, PropositionRecord}
 use Rattle.tables.specs.RefusalLaws.{both-none, not-faulty, all-none}
-use Rattle.tables.specs.TermTable.{AcceptedTerms, termsFault}
-use Rattle.tables.specs.PropositionTable.{AcceptedPropositions, propositionsFault}
-use Rattle.tables.specs.QuestionTable.{AcceptedQuestions, questionsFault}
+use Rattle.tables.specs.TermTable.{termsFault}
+use Rattle.tables.specs.PropositionTable.{propositionsFault}
+use Rattle.tables.specs.QuestionTable.{questionsFault}
 use Rattle.tables.specs.TableFaults.{Tables, Sized, sizesFault, recordsFault, tablesFault, Accepted as AcceptedTables}
 use Rattle.tables.specs.Call.{overwrite}
-use Rattle.text.specs.Reading.{Records, Reading, accepted, refused, reading}
+use Rattle.text.specs.Reading.{Records, Reading, accepted, refused}
 use Rattle.text.specs.Sound.{Sound, accepted-sound}
-use Rattle.reading.specs.declared.ReadResult.the-variants.{Accepted, Refused}
+use Rattle.reading.specs.declared.ReadResult.the-variants.{Accepted}
 use Rattle.reading.specs.declared.Counts.{Counts}
 use Rattle.reading.specs.Rows.{Rows, written}
 use Rattle.reading.specs.Loading.{countsOf}

@@ -14,7 +14,6 @@ use tables::TermRow;
 use types::Fault;
 use types::MOST;
 use types::Refusal;
-ghost use mathlib.Core.Path.{_≡_};
 ghost use Rattle.lists.specs.Lent.{before, after};
 ghost use Rattle.reading.specs.Rows.{rows, Room};
 ghost use Rattle.reading.specs.Loading.{Lined, JudgedAs, LoadedAs};

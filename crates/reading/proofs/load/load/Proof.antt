@@ -65,7 +65,9 @@ enum-known-refusal : tie.Need-enum-known-refusal Inv-loop μ-loop
 enum-known-refusal c = search needs
 
 sub-size : tie.Need-sub-size Inv-loop μ-loop
-sub-size c = rw (c .before .before .before .before .before .before .before .before .before .before .before .line-end .ensures) (end-after _ (c .before .before .before .before .before .before .before .before .before .before .before .before .before .loop .start))
+sub-size c =
+    let l = c .before .before .before .before .before .before .before .before .before .before .before .before .before .loop in
+    omega (arith, c .before .before .before .before .before .before .before .before .before .before .before .line-end .ensures, end-after (c .before .before .before .before .before .before .before .before .before .before .before .before .before .before .before .args .text .now) (l .start), c .before .before .before .before .before .before .before .before .before .before .before .before .loop-test .taken)
 
 same-length : tie.Need-same-length Inv-loop μ-loop
 same-length c = sized (c .before .before .before .before .before .before) .terms
