@@ -5,20 +5,23 @@ use mathlib.Core.List.{List, [], _∷_, map}
 use mathlib.Core.Option.{none, some}
 use native.Mathlib.Omega.{arith}
 use lib.ListN.{length, take, drop, getD, length-map, List·getD-append}
+use lib.Seq.{take-length}
 use mir.Syntax.{w64}
 use mir.Val.{SFits}
 use mir.ValLaws.{toZ-ofZ}
 use Rattle.lists.specs.Items.{Item, item-below, item-map}
 use Rattle.lists.specs.Tabulate.{tabulate}
 use Rattle.types.specs.declared.QuestionRecord.{QuestionRecord}
-use Rattle.rules.specs.Terms.{Term, variable, auxiliary, deref, Comparison}
+use Rattle.rules.specs.Terms.{Term, variable, auxiliary, deref, block-disequality, Comparison}
 use Rattle.offsets.specs.Fits.{within-fits}
-use Rattle.tables.specs.Records.{TermRecord, PropositionRecord, termOf, propositionOf, questionOf, offsetInRange}
+use Rattle.tables.specs.Records.{TermRecord, PropositionRecord, termOf, propositionOf, questionOf, offsetInRange, orDefault}
 use Rattle.tables.specs.Stands.{StandsFor, stands-for, deref-within, asserts, in-range, when-some}
 use Rattle.tables.specs.Refusals.{termFault, propositionFault, questionFault}
 use Rattle.tables.specs.RefusalLaws.{orElse-none, malformed-none}
 use Rattle.tables.specs.Rows.{Row, termOfRow, termRow, termAt, propositionOfRow, propositionRow, propositionAt, questionOfRow, questionRow, questionAt}
-use Rattle.tables.specs.QuestionTable.{asked}
+use Rattle.tables.specs.TermTable.{termsFrom}
+use Rattle.tables.specs.PropositionTable.{propositionsFrom}
+use Rattle.tables.specs.QuestionTable.{asked, questionsFrom}
 use Rattle.tables.specs.Call.{overwrite}
 use Rattle.text.specs.Reading.{Records}
 use Rattle.text.specs.Sound.{Sound}
@@ -61,6 +64,25 @@ question-back : (q : QuestionRecord) → SFits w64 (q .offset) → questionOfRow
 unfolding questionOfRow questionRow
 question-back q f = rw (toZ-ofZ w64 (q .offset) f)
 
+tabulate-map : {A B : Type 0} (g : A → B) (f : ℕ → A) (l : List A) (k : ℕ)
+    → ((i : ℕ) (x : A) → Item l i x → f (k + i) ≡ x)
+    → tabulate (λ i. g (f i)) k (length l) ≡ map g l
+unfolding tabulate
+tabulate-map g f [] k e = refl
+tabulate-map g f (x ∷ l) k e =
+    let n : k + 0 ≡ k = omega arith in
+    let h : f k ≡ x = rw n at (e 0 x refl) in
+    rw (h, tabulate-map g f l (suc k) (λ i y j. let m : suc k + i ≡ k + suc i = omega arith in rw m (e (suc i) y j)))
+
+tabulate-take : {A : Type 0} (f : ℕ → A) (l : List A) (k n : ℕ) → n ≤ length l → ((i : ℕ) (x : A) → Item l i x → f (k + i) ≡ x) → tabulate f k n ≡ take n l
+unfolding tabulate
+tabulate-take f l k zero h e = refl
+tabulate-take f [] k (suc n) h e = absurd (omega arith)
+tabulate-take f (x ∷ l) k (suc n) h e =
+    let s : k + 0 ≡ k = omega arith in
+    let here : f k ≡ x = rw s at (e 0 x refl) in
+    rw (here, tabulate-take f l (suc k) n (omega arith) (λ i y j. let m : suc k + i ≡ k + suc i = omega arith in rw m (e (suc i) y j)))
+
 module _ {A B : Type 0} (f : A → B) (rs : List A) (old : List B) (d : B) where
   overwrite-at : (k : ℕ) (x : A) → Item rs k x → getD (overwrite (map f rs) old) k d ≡ f x
   overwrite-at k x i =
@@ -87,16 +109,23 @@ module _ (R : Records) (C : Rows) (s : Sound R) where
 
   -- the first n term records
   pub front-held : (n : ℕ) → n ≤ length (R .terms) → tabulate (termAt (written R C .terms)) 0 n ≡ take n (R .terms)
-  unfolding tabulate
-  front-held n h = from 0 n (R .terms) h (λ k x i. let z : 0 + k ≡ k = omega arith in rw z (term-held k x i))
-    where
-      from : (k n : ℕ) (l : List TermRecord)
-          → n ≤ length l
-          → ((i : ℕ) (x : TermRecord) → Item l i x → termAt (written R C .terms) (k + i) ≡ x)
-          → tabulate (termAt (written R C .terms)) k n ≡ take n l
-      from k zero l h e = refl
-      from k (suc n) [] h e = absurd (omega arith)
-      from k (suc n) (x ∷ l) h e =
-          let z : k + 0 ≡ k = omega arith in
-          let here : termAt (written R C .terms) k ≡ x = rw z at (e 0 x refl) in
-          rw (here, from (suc k) n l (omega arith) (λ i y j. let m : suc k + i ≡ k + suc i = omega arith in rw m (e (suc i) y j)))
+  front-held n h = tabulate-take (termAt (written R C .terms)) (R .terms) 0 n h (λ k x i. let z : 0 + k ≡ k = omega arith in rw z (term-held k x i))
+
+  pub terms-held : termsFrom (length (R .terms)) (termAt (written R C .terms)) ≡ map (λ r. orDefault (auxiliary 0) (termOf r)) (R .terms)
+  unfolding termsFrom
+  terms-held =
+      tabulate-map (λ r. orDefault (auxiliary 0) (termOf r)) (termAt (written R C .terms)) (R .terms) 0
+      (λ k x i. let z : 0 + k ≡ k = omega arith in rw z (term-held k x i))
+
+  pub propositions-held : propositionsFrom (length (R .propositions)) (propositionAt (written R C .propositions)) ≡ map (λ p. orDefault (block-disequality 0 0) (propositionOf p)) (R .propositions)
+  unfolding propositionsFrom
+  propositions-held =
+      tabulate-map (λ p. orDefault (block-disequality 0 0) (propositionOf p)) (propositionAt (written R C .propositions)) (R .propositions) 0
+      (λ k x i. let z : 0 + k ≡ k = omega arith in rw z (proposition-held k x i))
+
+  pub questions-held : questionsFrom (length (R .questions)) (questionAt (written R C .questions)) ≡ R .questions
+  unfolding questionsFrom
+  questions-held =
+      tabulate-take (λ k. asked (questionAt (written R C .questions) k)) (R .questions) 0 (length (R .questions)) (omega arith)
+      (λ k x i. let z : 0 + k ≡ k = omega arith in rw z (question-held k x i))
+      ∙ take-length (R .questions)
