@@ -85,7 +85,14 @@ pub(crate) fn any_refuted(
     false
 }
 
-// Whether two variables are in one class: `seen` has for each class one more than a variable in it, or 0.
+// A representative as an index.
+fn wide(x: u32) -> usize
+    ensures { λ r. ⌜ r ≡ x ⌝ }
+{
+    x as usize
+}
+
+// Whether two variables are in one class: `seen` is 1 for a class with a variable in it, else 0.
 pub(crate) fn variables_meet(terms: &[TermRow], reps: &[u32]) -> bool
     requires { ⌜ (length (now terms) ≤ 512) × (length (now reps) ≡ length (now terms)) ⌝ }
     requires { ⌜ ((t : ℕ) → t < length (now reps) → getD (now reps) t 0 < length (now reps)) ⌝ }
@@ -97,7 +104,7 @@ pub(crate) fn variables_meet(terms: &[TermRow], reps: &[u32]) -> bool
         if r.kind != VARIABLE {
             continue;
         }
-        let class = reps[t] as usize;
+        let class = wide(reps[t]);
         if seen[class] != 0 {
             return true;
         }

@@ -17,6 +17,7 @@ use Rattle.lists.specs.Tabulate.{tabulate, length-tabulate, from-zero}
 use Rattle.types.specs.declared.Refusal.{Refusal}
 use Rattle.types.specs.declared.Refusal.the-variants.{PropositionTermNotListed}
 use Rattle.rules.specs.Terms.{Term, Proposition, equality, disequality, block-disequality, Given, DistinctVariables, listed, WellFormed}
+use Rattle.labels.specs.Spread.{Within}
 use Rattle.labels.specs.Steps.{Bounded}
 use Rattle.tables.specs.Limits.{offsetLimit}
 use Rattle.tables.specs.Records.{TermRecord, PropositionRecord, equalityKind, disequalityKind, blockDisequalityKind, propositionOf, orDefault}
@@ -83,6 +84,10 @@ module _ (n m : ℕ) (rec : ℕ → PropositionRecord) (accepted : AcceptedPropo
       let f = orElse-none (malformed (propositionOf p)) (propositionNameFault n p) (accepted k h) .1 in
       let b = or-false (leb n (p .left)) (leb n (p .right)) (refuseIf-none _ PropositionTermNotListed f) in
       (leb-false n (p .left) (b .0), leb-false n (p .right) (b .1))
+
+  -- its offset is within the limit
+  pub proposition-offset-within : (k : ℕ) → k < m → Within offsetLimit (rec k .offset)
+  proposition-offset-within k h = from-proposition k h .2 .within
 
   names-below : (k : ℕ) {x : Proposition} → Item (propositionsFrom m rec) k x → (leftOf x < n) × (rightOf x < n)
   names-below k i =

@@ -1,58 +1,55 @@
+-- The kept equalities before p hold.
+use Prim.Native.Nat.{_-_, _≤_}
+use mathlib.Core.Path.{_≡_, refl, _∙_}
+use mathlib.Core.Bool.{true}
+use native.Mathlib.Omega.{arith}
+use lib.ListN.{length}
+use borrow.Author.Needs.{needs}
+use borrow.Author.Tests.{not-true, not-false}
+use Rattle.tables.specs.Sets.{setOf}
+use Rattle.consistency.specs.Live.{Equalities, equalities-start, equalities-next, equalities-live, advanced-off}
 use Rattle.consistency.proofs.equalities.join_equalities.Statement.{statement}
 use Rattle.consistency.proofs.equalities.join_equalities.Tie as tie
-use Rattle.consistency.proofs.equalities.join_equalities.Reads as reads
-use Rattle.consistency.proofs.equalities.join_equalities.Lts as lts
-use Rattle.consistency.proofs.equalities.join_equality.Reads as join-equality-reads
 
 abbrev Inv-loop : tie.InvT-loop
-Inv-loop terms propositions marks parents₀ offs₀ p₀ p-end parents offs p = ?
+Inv-loop terms propositions marks parents₀ offs₀ p₀ p-end parents offs p =
+    (p ≤ length propositions) × ((length parents ≡ length parents₀) × ((length offs ≡ length offs₀) × Equalities (setOf terms propositions) marks parents offs p true))
 
 abbrev μ-loop : tie.MeasureT-loop
-μ-loop terms propositions marks parents₀ offs₀ p₀ p-end parents offs p = ?
+μ-loop terms propositions marks parents₀ offs₀ p₀ p-end parents offs p = length propositions - p
 
--- src/equalities.rt:67:5
 loop-holds : tie.Need-loop-holds Inv-loop μ-loop
-loop-holds c = ?
+loop-holds c = let s = c .before .before in (omega arith, (refl, (refl, equalities-start _ _ (s .pre .0 .0) (s .pre .0 .1))))
 
--- src/equalities.rt:68:13
 join-equality-requires : tie.Need-join-equality-requires Inv-loop μ-loop
-join-equality-requires c κs = ?
+join-equality-requires c κs =
+    let l = c .before .before .before in
+    let s = l .before .before .before in
+    ((s .pre .0 .0, equalities-live _ _ (s .pre .0 .0) (l .loop .inv .1 .1 .1)), (s .pre .1, omega (arith, c .before .before .loop-test .taken)))
 
--- src/equalities.rt:76:13
-same-length : tie.Need-same-length Inv-loop μ-loop
-same-length c = ?
-
--- src/equalities.rt:76:13
-same-length-2 : tie.Need-same-length-2 Inv-loop μ-loop
-same-length-2 c = ?
-
--- src/equalities.rt:76:13
 returns : tie.Need-returns Inv-loop μ-loop
-returns c = ?
+returns c =
+    let j = c .before .before .before .before in
+    let s = j .before .before .before .before .before .before .before in
+    advanced-off _ _ (s .pre .0 .0) (rw (not-true (j .join-equality .result) (c .if1 .taken)) at (j .join-equality .ensures))
 
--- src/equalities.rt:67:9
-add-p : tie.Need-add-p Inv-loop μ-loop
-add-p c = ?
-
--- src/equalities.rt:67:5
-loop-less : tie.Need-loop-less Inv-loop μ-loop
-loop-less c = ?
-
--- src/equalities.rt:67:5
 loop-again : tie.Need-loop-again Inv-loop μ-loop
-loop-again c = ?
+loop-again c =
+    let j = c .before .before .before .before in
+    let l = j .before .before .before .before in
+    let s = l .before .before .before in
+    let h = l .loop .inv in
+    let b = j .before .before .before .loop-test .taken in
+    let lengths = j .join-equality .kept .1 .1 .1 in (
+      omega arith,
+      (lengths .0 ∙ h .1 .0, (lengths .1 .0 ∙ h .1 .1 .0, equalities-next _ _ (s .pre .0 .0) b (h .1 .1 .1) (rw (not-false (j .join-equality .result) (c .if1 .left)) at (j .join-equality .ensures)))),
+    )
 
--- src/equalities.rt:56:1
-same-length-3 : tie.Need-same-length-3 Inv-loop μ-loop
-same-length-3 c = ?
-
--- src/equalities.rt:56:1
-same-length-4 : tie.Need-same-length-4 Inv-loop μ-loop
-same-length-4 c = ?
-
--- src/equalities.rt:56:1
 returns-2 : tie.Need-returns-2 Inv-loop μ-loop
-returns-2 c = ?
+returns-2 c =
+    let l = c .before .loop in
+    let e : l .p ≡ length (c .before .before .before .before .args .propositions .now) = omega (arith, l .inv .0, c .loop-test .left) in
+    rw e at (l .inv .1 .1 .1)
 
 pub join-equalities-spec : {M : Type 1} → statement M
 join-equalities-spec =
@@ -62,12 +59,12 @@ join-equalities-spec =
     μ-loop
     loop-holds
     join-equality-requires
-    same-length
-    same-length-2
+    (λ c. search needs)
+    (λ c. search needs)
     returns
-    add-p
-    loop-less
+    (λ c. omega arith)
+    (λ c. omega arith)
     loop-again
-    same-length-3
-    same-length-4
+    (λ c. search needs)
+    (λ c. search needs)
     returns-2)

@@ -1,72 +1,47 @@
-use borrow.Author.Needs.{needs}
+-- One class, and the offset from the right side.
+use native.Mathlib.Omega.{arith}
+use mir.Syntax.{w64}
+use mir.ValLaws.{toZ-ofZ}
+use borrow.Author.Needs.{needs, sfits-of}
+use borrow.Author.Tests.{eq-eqb, ne-eqb}
+use Rattle.offsets.specs.Fits.{within-sum, within-fits}
+use Rattle.closure.specs.Verdict.{holds}
 use Rattle.consistency.proofs.facts.holds.Statement.{statement}
 use Rattle.consistency.proofs.facts.holds.Tie as tie
-use Rattle.consistency.proofs.facts.holds.Reads as reads
-use Rattle.consistency.proofs.facts.holds.Lts as lts
-use Rattle.offsets.proofs.is_same.Reads as is-same-reads
-use Rattle.offsets.proofs.sum.Reads as sum-reads
 
--- src/facts.rt:35:8
-mul-if1 : tie.Need-mul-if1
-mul-if1 c = search needs
-
--- src/facts.rt:35:8
-shared-slice-read-if1 : tie.Need-shared-slice-read-if1
-shared-slice-read-if1 c = search needs
-
--- src/facts.rt:35:19
-mul-if1-2 : tie.Need-mul-if1-2
-mul-if1-2 c = search needs
-
--- src/facts.rt:35:19
-shared-slice-read-if1-2 : tie.Need-shared-slice-read-if1-2
-shared-slice-read-if1-2 c = search needs
-
--- src/facts.rt:36:9
 returns : tie.Need-returns
-returns c = ?
+unfolding holds
+returns c = rw (ne-eqb _ _ (c .if1 .taken))
 
--- src/facts.rt:38:13
-mul-is-same : tie.Need-mul-is-same
-mul-is-same c = search needs
-
--- src/facts.rt:38:13
-shared-slice-copy-out-is-same : tie.Need-shared-slice-copy-out-is-same
-shared-slice-copy-out-is-same c = search needs
-
--- src/facts.rt:38:29
-mul-sum : tie.Need-mul-sum
-mul-sum c = search needs
-
--- src/facts.rt:38:29
-shared-slice-copy-out-sum : tie.Need-shared-slice-copy-out-sum
-shared-slice-copy-out-sum c = search needs
-
--- src/facts.rt:38:22
 sum-requires : tie.Need-sum-requires
-sum-requires c κs = ?
+sum-requires c κs =
+    let s = c .before .before .before .before .before .before in
+    rw (toZ-ofZ w64 (s .args .z) (s .fits .z), toZ-ofZ w64 _ (sfits-of (c .sum-arg .given)))
+    (within-fits (omega arith) (within-sum (s .pre .1 .1 .1) (s .pre .0 .near _ (s .pre .1 .1 .0))))
 
--- src/facts.rt:38:5
-is-same-requires : tie.Need-is-same-requires
-is-same-requires c κs = search needs
-
--- src/facts.rt:29:1
 returns-2 : tie.Need-returns-2
-returns-2 c = ?
+unfolding holds
+returns-2 c =
+    let t = c .before in
+    let x = t .before .before in
+    let s = x .before .before .before .before .before in
+    let e = rw (toZ-ofZ w64 (s .args .z) (s .fits .z), toZ-ofZ w64 _ (sfits-of (t .before .sum-arg .given))) at (t .sum .ensures) in
+    let f = rw (toZ-ofZ w64 (t .sum .result) (sfits-of (t .sum .ok)), toZ-ofZ w64 _ (sfits-of (x .is-same-arg .given)), e) at (c .is-same .ensures) in
+    rw (eq-eqb _ _ (x .before .if1 .left)) f
 
 pub holds-spec : {M : Type 1} → statement M
 holds-spec =
     tie.close
     (tie.spec
-    mul-if1
-    shared-slice-read-if1
-    mul-if1-2
-    shared-slice-read-if1-2
+    (λ c. search needs)
+    (λ c. search needs)
+    (λ c. search needs)
+    (λ c. search needs)
     returns
-    mul-is-same
-    shared-slice-copy-out-is-same
-    mul-sum
-    shared-slice-copy-out-sum
+    (λ c. search needs)
+    (λ c. search needs)
+    (λ c. search needs)
+    (λ c. search needs)
     sum-requires
-    is-same-requires
+    (λ c κs. search needs)
     returns-2)
