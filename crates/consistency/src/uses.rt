@@ -9,12 +9,19 @@ ghost use Prim.Native.Nat.{_<_, _^_};
 // The parts of the notes, 512 cells each. The first and the last use of a class and how many it has, the next use after a use; the name
 // of a class in the table of addresses; a stack of uses to look at, and which of them are on it.
 const FIRST: usize = 0;
+
 const NEXT: usize = 512;
+
 const LAST: usize = 1024;
+
 const SIZE: usize = 1536;
+
 const NAME: usize = 2048;
+
 const STACK: usize = 2560;
+
 const WAITING: usize = 3072;
+
 const HEIGHT: usize = 3584;
 
 // The table of addresses, in the cells from 4096 on.
@@ -127,7 +134,7 @@ pub(crate) fn pop(notes: &mut [u32]) -> usize {
 // Puts the uses of a class on the stack.
 fn push_uses(notes: &mut [u32], class: usize) {
     let mut next = peek(notes, FIRST, class);
-    for _ in 0..512 {
+    for _ in 0..512usize {
         if next == 0 {
             return;
         }
