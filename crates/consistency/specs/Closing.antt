@@ -199,6 +199,9 @@ module _ (n : ℕ) (rec : ℕ → TermRecord) where
   pub chased-labels : {p0 p : List ℕ} {o0 o : List ℤ} → Chased p0 o0 p o true → Labels n p o
   chased-labels (going c L l) = L
 
+  pub chased-chain : {p0 p : List ℕ} {o0 o : List ℤ} → Chased p0 o0 p o true → Chain (flat p0 o0) (flat p o)
+  chased-chain (going c L l) = c
+
   pub chased-clash : {p0 p : List ℕ} {o0 o : List ℤ} → Chased p0 o0 p o false → Closing p0 o0 p o false
   chased-clash (clash c l C) = clash c l C
 

@@ -108,7 +108,7 @@ fn lookup(
     requires { ⌜ AcceptedTerms (length (now terms)) (termAt (now terms)) × Labels (length (now terms)) (now parents) (now offs) ⌝ }
     ensures { λ _. ⌜ Unchanged (before parents) (before offs) (after parents) (after offs) ⌝ }
 {
-    for i in 0..64 {
+    for i in 0..64usize {
         let s = start % 4096 + i;
         let found = slot(notes, s);
         if found == 0 {
@@ -208,7 +208,7 @@ fn chase(
     requires { ⌜ AcceptedTerms (length (now terms)) (termAt (now terms)) × Labels (length (now terms)) (now parents) (now offs) ⌝ }
     ensures { λ r. ⌜ Chased (length (before terms)) (termAt (before terms)) (before parents) (before offs) (after parents) (after offs) r ⌝ }
 {
-    for _ in 0..8192 {
+    for _ in 0..8192usize {
         let top = pop(notes);
         if top == 0 {
             return true;

@@ -1,101 +1,78 @@
+use mathlib.Core.Path.{refl}
+use native.Mathlib.Omega.{arith}
+use lib.ListN.{length}
+use Rattle.tables.specs.Rows.{termAt}
+use Rattle.consistency.specs.Labels.{unchanged-labels, unchanged-then}
+use Rattle.consistency.specs.Closing.{start, deref-record, chased-start, unchanged-chased, chased-then}
 use borrow.Author.Needs.{needs}
 use Rattle.consistency.proofs.closing.step.Statement.{statement}
 use Rattle.consistency.proofs.closing.step.Tie as tie
-use Rattle.consistency.proofs.closing.step.Reads as reads
-use Rattle.consistency.proofs.closing.step.Lts as lts
-use Rattle.consistency.proofs.closing.address.Reads as address-reads
-use Rattle.consistency.proofs.closing.lookup.Reads as lookup-reads
-use Rattle.consistency.proofs.closing.merge.Reads as merge-reads
-use Rattle.consistency.proofs.uses.first_slot.Reads as first-slot-reads
-use Rattle.tables.proofs.term_at.Reads as term-at-reads
 
--- src/closing.rt:167:9
 term-at-requires : tie.Need-term-at-requires
 term-at-requires c κs = search needs
 
--- src/closing.rt:169:9
 returns : tie.Need-returns
-returns c = ?
+returns c = let s = (c .before .before .before .before .before .before) in chased-start (length (s .args .terms .now)) (termAt (s .args .terms .now)) (s .pre .1 .0)
 
--- src/closing.rt:171:9
 address-requires : tie.Need-address-requires
-address-requires c κs = ?
+address-requires c κs = let s = (c .before .before .before .before .before .before .before .before) in deref-record (termAt (s .args .terms .now)) (s .pre .0) (s .pre .1 .0) (s .pre .1 .1) (c .before .before .before .before .term-at .ensures) (c .before .before .if1 .left)
 
--- src/closing.rt:172:9
 first-slot-requires : tie.Need-first-slot-requires
 first-slot-requires c κs = search needs
 
--- src/closing.rt:173:9
 lookup-requires : tie.Need-lookup-requires
-lookup-requires c κs = ?
+lookup-requires c κs = let s = (c .before .before .before .before .before .before .before .before .before .before .before .before .before .before .before .before .before .before) in (s .pre .0, unchanged-labels (c .before .before .before .before .before .before .before .before .before .address .ensures .unchanged) (s .pre .1 .0))
 
--- src/closing.rt:175:9
 same-length : tie.Need-same-length
 same-length c = search needs
 
--- src/closing.rt:175:9
 same-length-2 : tie.Need-same-length-2
 same-length-2 c = search needs
 
--- src/closing.rt:175:9
 same-length-3 : tie.Need-same-length-3
 same-length-3 c = search needs
 
--- src/closing.rt:175:9
 same-length-4 : tie.Need-same-length-4
 same-length-4 c = search needs
 
--- src/closing.rt:175:9
 returns-2 : tie.Need-returns-2
-returns-2 c = ?
+returns-2 c = let s = (c .before .before .before .before .before .before .before .before .before .before .before .before .before .before .before .before .before .before .before .before .before .before .before .before .before) in let u = unchanged-then (c .before .before .before .before .before .before .before .before .before .before .before .before .before .before .before .before .address .ensures .unchanged) (c .before .before .before .before .before .before .lookup .ensures) in unchanged-chased (length (s .args .terms .now)) (termAt (s .args .terms .now)) (s .pre .1 .0) start refl u
 
--- src/closing.rt:177:13
 sub-y : tie.Need-sub-y
 sub-y c = search needs
 
--- src/closing.rt:179:9
 same-length-5 : tie.Need-same-length-5
 same-length-5 c = search needs
 
--- src/closing.rt:179:9
 same-length-6 : tie.Need-same-length-6
 same-length-6 c = search needs
 
--- src/closing.rt:179:9
 same-length-7 : tie.Need-same-length-7
 same-length-7 c = search needs
 
--- src/closing.rt:179:9
 same-length-8 : tie.Need-same-length-8
 same-length-8 c = search needs
 
--- src/closing.rt:179:9
 returns-3 : tie.Need-returns-3
-returns-3 c = ?
+returns-3 c = let s = (c .before .before .before .before .before .before .before .before .before .before .before .before .before .before .before .before .before .before .before .before .before .before .before .before .before .before) in let u = unchanged-then (c .before .before .before .before .before .before .before .before .before .before .before .before .before .before .before .before .before .address .ensures .unchanged) (c .before .before .before .before .before .before .before .lookup .ensures) in unchanged-chased (length (s .args .terms .now)) (termAt (s .args .terms .now)) (s .pre .1 .0) start refl u
 
--- src/closing.rt:181:5
 merge-requires : tie.Need-merge-requires
-merge-requires c κs = ?
+merge-requires c κs = let s = (c .before .before .before .before .before .before .before .before .before .before .before .before .before .before .before .before .before .before .before .before .before .before .before .before .before .before .before .before .before .before) in let u = unchanged-then (c .before .before .before .before .before .before .before .before .before .before .before .before .before .before .before .before .before .before .before .before .before .address .ensures .unchanged) (c .before .before .before .before .before .before .before .before .before .before .before .lookup .ensures) in ((s .pre .0, unchanged-labels u (s .pre .1 .0)), (s .pre .1 .1, omega (arith, c .before .before .before .before .if3 .left)))
 
--- src/closing.rt:156:1
 same-length-9 : tie.Need-same-length-9
 same-length-9 c = search needs
 
--- src/closing.rt:156:1
 same-length-10 : tie.Need-same-length-10
 same-length-10 c = search needs
 
--- src/closing.rt:156:1
 same-length-11 : tie.Need-same-length-11
 same-length-11 c = search needs
 
--- src/closing.rt:156:1
 same-length-12 : tie.Need-same-length-12
 same-length-12 c = search needs
 
--- src/closing.rt:156:1
 returns-4 : tie.Need-returns-4
-returns-4 c = ?
+returns-4 c = let s = (c .before .before .before .before .before .before .before .before .before .before .before .before .before .before .before .before .before .before .before .before .before .before .before .before .before .before .before .before .before .before .before .before .before .before .before .before .before .before) in let u = unchanged-then (c .before .before .before .before .before .before .before .before .before .before .before .before .before .before .before .before .before .before .before .before .before .before .before .before .before .before .before .before .before .address .ensures .unchanged) (c .before .before .before .before .before .before .before .before .before .before .before .before .before .before .before .before .before .before .before .lookup .ensures) in chased-then (length (s .args .terms .now)) (termAt (s .args .terms .now)) (unchanged-chased (length (s .args .terms .now)) (termAt (s .args .terms .now)) (s .pre .1 .0) start refl u) (c .before .before .before .before .before .before .before .merge .ensures)
 
 pub step-spec : {M : Type 1} → statement M
 step-spec =
