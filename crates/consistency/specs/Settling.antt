@@ -19,8 +19,8 @@ use Rattle.unionfind.specs.declared.Joining.{Joining}
 use Rattle.unionfind.specs.Forest.{Links, flat, Found, Equated, Flattened}
 use Rattle.lastlook.specs.declared.Look.{Look}
 use Rattle.lastlook.specs.Addresses.{SameAddress, Labelled, Looked}
-use Rattle.consistency.specs.Labels.{Labels, Unchanged, labels-rooted, labels-near, joined-labels}
-use Rattle.consistency.specs.Closing.{Chain, more, Chased, going, Closing, Clash, unchanged-chased, zero-within}
+use Rattle.consistency.specs.Labels.{Labels, Unchanged, Columns, labels-rooted, labels-near, joined-labels}
+use Rattle.consistency.specs.Closing.{Chain, more, Chased, going, Closing, Clash, own-labels, unchanged-chased, zero-within}
 
 pub found-unchanged : {p0 p : List ℕ} {o0 o : List ℤ} {t : ℕ} {r : Root} → Found p0 o0 p o t r → Unchanged p0 o0 p o
 found-unchanged F = record { links = F .links; same = F .same; long = F .long }
@@ -77,3 +77,12 @@ module _ (n : ℕ) (rec : ℕ → TermRecord) where
       pair-clashed (going c L l) A (Equated.clashed K k s b m) =
           Closing.clash {x = x} {y = y} (rw s c) (k ∙ l)
           (rw s (record { below-x = A .below-x; below-y = A .below-y; same = A .same; together = b; unequal = A .unequal }))
+
+  -- what the tests of the labels in columns want
+  pub closing-columns : {p0 p : List ℕ} {o0 o : List ℤ} → Closing n rec p0 o0 p o true → Columns p o
+  closing-columns (Closing.closed c L l v A) = record {
+    few = rw (L .count) (L .few);
+    same-length = L .links .same-length;
+    below = λ t h. omega (arith, ap (λ (P : Placement). P .block t) v, labels-rooted (own-labels L) .below h);
+    near = λ t h. rw (ap (λ (P : Placement). P .position t) v) (labels-near L .near h);
+  }

@@ -47,13 +47,7 @@ fn address(parents: &mut [u32], offs: &mut [i64], r: TermRecord) -> Root
 }
 
 // Whether y is a dereference that reads this address.
-fn reads(
-    terms: &[TermRow],
-    parents: &mut [u32],
-    offs: &mut [i64],
-    y: TermNumber,
-    at: Root,
-) -> bool
+fn reads(terms: &[TermRow], parents: &mut [u32], offs: &mut [i64], y: TermNumber, at: Root) -> bool
     requires { ⌜ AcceptedTerms (length (now terms)) (termAt (now terms)) × (Labels (length (now terms)) (now parents) (now offs) × (y .0 < length (now terms))) ⌝ }
     ensures { λ r. ⌜ Reads (termAt (before terms)) (before parents) (before offs) (after parents) (after offs) (y .0) at r ⌝ }
 {

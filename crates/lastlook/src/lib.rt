@@ -11,6 +11,7 @@ use sorting::Words;
 use sorting::sort;
 use tables::TermRow;
 use tables::term_at;
+use types::DEREF;
 use types::TermNumber;
 ghost use mathlib.Core.Path.{_≡_};
 ghost use Prim.Native.Nat.{_*_, _^_, _≤_, _<_};
@@ -52,7 +53,7 @@ fn is_deref(terms: &[TermRow], x: TermNumber) -> bool
     requires { ⌜ x .0 < length (now terms) ⌝ }
     ensures { λ r. ⌜ r ≡ eqb (termAt (before terms) (x .0) .kind) derefKind ⌝ }
 {
-    term_at(terms, x).kind == 3
+    term_at(terms, x).kind == DEREF
 }
 
 // The class of the term inside the dereference x.

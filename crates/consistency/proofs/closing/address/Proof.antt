@@ -5,7 +5,6 @@ use mir.Syntax.{w64}
 use mir.ValLaws.{toZ-ofZ}
 use borrow.Author.Needs.{needs, sfits-of}
 use Rattle.consistency.specs.Labels.{labels-near}
-
 use Rattle.consistency.proofs.closing.address.Statement.{statement}
 use Rattle.consistency.proofs.closing.address.Tie as tie
 
@@ -25,7 +24,7 @@ same-length-2 : tie.Need-same-length-2
 same-length-2 c = search needs
 
 returns : tie.Need-returns
-returns c = let s = (c .before .before .before .before .before .before .before .before .before .before .before .before) in let f = c .before .before .before .before .before .before .before .find .ensures in let w = s .pre .1 .1 in let b : Within far (c .before .before .before .before .before .before .before .find .result .offset) = rw (f .offset, c .before .before .before .before .before .before .before .before .index .ensures) (labels-near (s .pre .0) .near (s .pre .1 .0)) in 
+returns c = let s = (c .before .before .before .before .before .before .before .before .before .before .before .before) in let f = c .before .before .before .before .before .before .before .find .ensures in let w = s .pre .1 .1 in let b : Within far (c .before .before .before .before .before .before .before .find .result .offset) = rw (f .offset, c .before .before .before .before .before .before .before .before .index .ensures) (labels-near (s .pre .0) .near (s .pre .1 .0)) in
     let e = rw (toZ-ofZ w64 (s .args .r .offset) (offset-fits w), toZ-ofZ w64 (c .before .before .before .before .before .before .before .find .result .offset) (far-fits b)) at (c .sum .ensures) in
     record {
       unchanged = record { links = f .links; same = f .same; long = f .long };

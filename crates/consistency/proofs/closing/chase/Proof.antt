@@ -1,123 +1,101 @@
+use Prim.Native.Nat.{_-_, _≤_}
+use mathlib.Core.Path.{_≡_, refl, _∙_}
+use mathlib.Core.Bool.{true}
+use native.Mathlib.Omega.{arith}
+use lib.ListN.{length}
+use borrow.Author.Needs.{needs}
+use borrow.Author.Tests.{not-true, not-false}
+use Rattle.tables.specs.Rows.{termAt}
+use Rattle.consistency.specs.Closing.{Chased, chased-start, chased-labels, chased-long, chased-then}
 use Rattle.consistency.proofs.closing.chase.Statement.{statement}
 use Rattle.consistency.proofs.closing.chase.Tie as tie
-use Rattle.consistency.proofs.closing.chase.Reads as reads
-use Rattle.consistency.proofs.closing.chase.Lts as lts
-use Rattle.consistency.proofs.closing.step.Reads as step-reads
-use Rattle.consistency.proofs.uses.pop.Reads as pop-reads
 
 abbrev Inv-loop : tie.InvT-loop
-Inv-loop terms parents₀ offs₀ notes₀ shifts₀ counter₀ parents offs notes shifts counter = ?
+Inv-loop terms parents₀ offs₀ notes₀ shifts₀ counter₀ parents offs notes shifts counter = (counter ≤ 8192) × (Chased (length terms) (termAt terms) parents₀ offs₀ parents offs true × (length offs ≡ length offs₀ × (length notes ≡ length notes₀ × (length shifts ≡ length shifts₀))))
 
 abbrev μ-loop : tie.MeasureT-loop
-μ-loop terms parents₀ offs₀ notes₀ shifts₀ counter₀ parents offs notes shifts counter = ?
+μ-loop terms parents₀ offs₀ notes₀ shifts₀ counter₀ parents offs notes shifts counter = 8192 - counter
 
--- src/closing.rt:211:5
 loop-holds : tie.Need-loop-holds Inv-loop μ-loop
-loop-holds c = ?
+loop-holds c = let s = (c .before .before .before) in (omega arith, (chased-start (length (s .args .terms .now)) (termAt (s .args .terms .now)) (s .pre .1), (refl, (refl, refl))))
 
--- src/closing.rt:212:13
 pop-requires : tie.Need-pop-requires Inv-loop μ-loop
-pop-requires c κs = ?
+pop-requires c κs = search needs
 
--- src/closing.rt:214:13
 same-length : tie.Need-same-length Inv-loop μ-loop
-same-length c = ?
+same-length c = let s = (c .before .before .before .before .before .before .before .before .before .before) in chased-long (length (s .args .terms .now)) (termAt (s .args .terms .now)) (c .before .before .before .before .before .before .loop .inv .1 .0)
 
--- src/closing.rt:214:13
 same-length-2 : tie.Need-same-length-2 Inv-loop μ-loop
-same-length-2 c = ?
+same-length-2 c = c .before .before .before .before .before .before .loop .inv .1 .1 .0
 
--- src/closing.rt:214:13
 same-length-3 : tie.Need-same-length-3 Inv-loop μ-loop
-same-length-3 c = ?
+same-length-3 c = c .before .before .before .pop .kept .0 ∙ c .before .before .before .before .before .before .loop .inv .1 .1 .1 .0
 
--- src/closing.rt:214:13
 same-length-4 : tie.Need-same-length-4 Inv-loop μ-loop
-same-length-4 c = ?
+same-length-4 c = c .before .before .before .before .before .before .loop .inv .1 .1 .1 .1
 
--- src/closing.rt:214:13
 returns : tie.Need-returns Inv-loop μ-loop
-returns c = ?
+returns c = c .before .before .before .before .before .before .loop .inv .1 .0
 
--- src/closing.rt:216:17
 sub-x : tie.Need-sub-x Inv-loop μ-loop
-sub-x c = ?
+sub-x c = omega (arith, c .if1 .left)
 
--- src/closing.rt:218:13
 same-length-5 : tie.Need-same-length-5 Inv-loop μ-loop
-same-length-5 c = ?
+same-length-5 c = let s = (c .before .before .before .before .before .before .before .before .before .before .before) in chased-long (length (s .args .terms .now)) (termAt (s .args .terms .now)) (c .before .before .before .before .before .before .before .loop .inv .1 .0)
 
--- src/closing.rt:218:13
 same-length-6 : tie.Need-same-length-6 Inv-loop μ-loop
-same-length-6 c = ?
+same-length-6 c = c .before .before .before .before .before .before .before .loop .inv .1 .1 .0
 
--- src/closing.rt:218:13
 same-length-7 : tie.Need-same-length-7 Inv-loop μ-loop
-same-length-7 c = ?
+same-length-7 c = c .before .before .before .before .pop .kept .0 ∙ c .before .before .before .before .before .before .before .loop .inv .1 .1 .1 .0
 
--- src/closing.rt:218:13
 same-length-8 : tie.Need-same-length-8 Inv-loop μ-loop
-same-length-8 c = ?
+same-length-8 c = c .before .before .before .before .before .before .before .loop .inv .1 .1 .1 .1
 
--- src/closing.rt:218:13
 returns-2 : tie.Need-returns-2 Inv-loop μ-loop
-returns-2 c = ?
+returns-2 c = c .before .before .before .before .before .before .before .loop .inv .1 .0
 
--- src/closing.rt:220:13
 step-requires : tie.Need-step-requires Inv-loop μ-loop
-step-requires c κs = ?
+step-requires c κs = let s = (c .before .before .before .before .before .before .before .before .before .before .before .before .before .before .before) in (s .pre .0, (chased-labels (length (s .args .terms .now)) (termAt (s .args .terms .now)) (c .before .before .before .before .before .before .before .before .before .before .before .loop .inv .1 .0), omega (arith, c .before .before .before .before .if2 .left)))
 
--- src/closing.rt:221:13
 same-length-9 : tie.Need-same-length-9 Inv-loop μ-loop
-same-length-9 c = ?
+same-length-9 c = let s = (c .before .before .before .before .before .before .before .before .before .before .before .before .before .before .before .before .before .before .before .before .before .before .before .before) in c .before .before .before .before .before .before .before .before .step .kept .1 .0 ∙ chased-long (length (s .args .terms .now)) (termAt (s .args .terms .now)) (c .before .before .before .before .before .before .before .before .before .before .before .before .before .before .before .before .before .before .before .before .loop .inv .1 .0)
 
--- src/closing.rt:221:13
 same-length-10 : tie.Need-same-length-10 Inv-loop μ-loop
-same-length-10 c = ?
+same-length-10 c = c .before .before .before .before .before .before .before .before .step .kept .1 .1 .0 ∙ c .before .before .before .before .before .before .before .before .before .before .before .before .before .before .before .before .before .before .before .before .loop .inv .1 .1 .0
 
--- src/closing.rt:221:13
 same-length-11 : tie.Need-same-length-11 Inv-loop μ-loop
-same-length-11 c = ?
+same-length-11 c = c .before .before .before .before .before .before .before .before .step .kept .1 .1 .1 .0 ∙ (c .before .before .before .before .before .before .before .before .before .before .before .before .before .before .before .before .before .pop .kept .0 ∙ c .before .before .before .before .before .before .before .before .before .before .before .before .before .before .before .before .before .before .before .before .loop .inv .1 .1 .1 .0)
 
--- src/closing.rt:221:13
 same-length-12 : tie.Need-same-length-12 Inv-loop μ-loop
-same-length-12 c = ?
+same-length-12 c = c .before .before .before .before .before .before .before .before .step .kept .1 .1 .1 .1 .0 ∙ c .before .before .before .before .before .before .before .before .before .before .before .before .before .before .before .before .before .before .before .before .loop .inv .1 .1 .1 .1
 
--- src/closing.rt:221:13
 returns-3 : tie.Need-returns-3 Inv-loop μ-loop
-returns-3 c = ?
+returns-3 c = let s = (c .before .before .before .before .before .before .before .before .before .before .before .before .before .before .before .before .before .before .before .before .before .before .before .before) in chased-then (length (s .args .terms .now)) (termAt (s .args .terms .now)) (c .before .before .before .before .before .before .before .before .before .before .before .before .before .before .before .before .before .before .before .before .loop .inv .1 .0) (rw (not-true (c .before .before .before .before .before .before .before .before .step .result) (c .if3 .taken)) at (c .before .before .before .before .before .before .before .before .step .ensures))
 
--- src/closing.rt:211:9
 add-counter : tie.Need-add-counter Inv-loop μ-loop
-add-counter c = ?
+add-counter c = omega (arith, c .before .before .before .before .before .before .before .before .before .before .before .before .before .before .before .before .before .before .before .loop-test .taken)
 
--- src/closing.rt:211:5
 loop-less : tie.Need-loop-less Inv-loop μ-loop
-loop-less c = ?
+loop-less c = omega (arith, c .before .before .before .before .before .before .before .before .before .before .before .before .before .before .before .before .before .before .before .loop-test .taken)
 
--- src/closing.rt:211:5
 loop-again : tie.Need-loop-again Inv-loop μ-loop
-loop-again c = ?
+loop-again c = let s = (c .before .before .before .before .before .before .before .before .before .before .before .before .before .before .before .before .before .before .before .before .before .before .before .before) in (omega (arith, c .before .before .before .before .before .before .before .before .before .before .before .before .before .before .before .before .before .before .before .loop-test .taken), (chased-then (length (s .args .terms .now)) (termAt (s .args .terms .now)) (c .before .before .before .before .before .before .before .before .before .before .before .before .before .before .before .before .before .before .before .before .loop .inv .1 .0) (rw (not-false (c .before .before .before .before .before .before .before .before .step .result) (c .if3 .left)) at (c .before .before .before .before .before .before .before .before .step .ensures)), (c .before .before .before .before .before .before .before .before .step .kept .1 .1 .0 ∙ c .before .before .before .before .before .before .before .before .before .before .before .before .before .before .before .before .before .before .before .before .loop .inv .1 .1 .0, (c .before .before .before .before .before .before .before .before .step .kept .1 .1 .1 .0 ∙ (c .before .before .before .before .before .before .before .before .before .before .before .before .before .before .before .before .before .pop .kept .0 ∙ c .before .before .before .before .before .before .before .before .before .before .before .before .before .before .before .before .before .before .before .before .loop .inv .1 .1 .1 .0), c .before .before .before .before .before .before .before .before .step .kept .1 .1 .1 .1 .0 ∙ c .before .before .before .before .before .before .before .before .before .before .before .before .before .before .before .before .before .before .before .before .loop .inv .1 .1 .1 .1))))
 
--- src/closing.rt:201:1
 same-length-13 : tie.Need-same-length-13 Inv-loop μ-loop
-same-length-13 c = ?
+same-length-13 c = let s = (c .before .before .before .before .before) in chased-long (length (s .args .terms .now)) (termAt (s .args .terms .now)) (c .before .loop .inv .1 .0)
 
--- src/closing.rt:201:1
 same-length-14 : tie.Need-same-length-14 Inv-loop μ-loop
-same-length-14 c = ?
+same-length-14 c = c .before .loop .inv .1 .1 .0
 
--- src/closing.rt:201:1
 same-length-15 : tie.Need-same-length-15 Inv-loop μ-loop
-same-length-15 c = ?
+same-length-15 c = c .before .loop .inv .1 .1 .1 .0
 
--- src/closing.rt:201:1
 same-length-16 : tie.Need-same-length-16 Inv-loop μ-loop
-same-length-16 c = ?
+same-length-16 c = c .before .loop .inv .1 .1 .1 .1
 
--- src/closing.rt:201:1
 returns-4 : tie.Need-returns-4 Inv-loop μ-loop
-returns-4 c = ?
+returns-4 c = c .before .loop .inv .1 .0
 
 pub chase-spec : {M : Type 1} → statement M
 chase-spec =

@@ -4,7 +4,6 @@ use Rattle.tables.specs.Rows.{termAt}
 use Rattle.consistency.specs.Labels.{unchanged-self, unchanged-labels, unchanged-then, labels-near}
 use Rattle.consistency.specs.Closing.{as-before, deref-record, reads-not, tested, met-joined, met-held, met-clashed, zero-within}
 use borrow.Author.Needs.{needs}
-
 use Rattle.consistency.proofs.closing.meet.Statement.{statement}
 use Rattle.consistency.proofs.closing.meet.Tie as tie
 

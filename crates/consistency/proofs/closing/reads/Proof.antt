@@ -4,7 +4,6 @@ use mir.ValLaws.{toZ-ofZ}
 use borrow.Author.Needs.{needs, sfits-of}
 use Rattle.consistency.specs.Labels.{unchanged-self}
 use Rattle.consistency.specs.Closing.{does-not, deref-record, reads-by}
-
 use Rattle.consistency.proofs.closing.reads.Statement.{statement}
 use Rattle.consistency.proofs.closing.reads.Tie as tie
 
