@@ -1,6 +1,7 @@
 //! Random sets, whole and damaged, and full sets of several kinds.
 
 use second_solver::tables::{pair_bytes, Input};
+use std::collections::HashMap;
 
 /// A generator of numbers with a fixed seed (xorshift).
 pub struct Numbers(pub u64);
@@ -235,7 +236,7 @@ pub fn damage(r: &mut Numbers, set: &mut Set) {
     }
 }
 
-/// Two chains of dereferences whose starts are equal.
+/// Two chains of dereferences whose starts are equal, so that E4 alone makes the rest equal.
 pub fn chains(size: usize) -> Set {
     let mut set = Set::default();
     let (mut a, mut b) = (set.term(2, 0, 0), set.term(2, 1, 0));
@@ -309,6 +310,116 @@ pub fn one_class(size: usize) -> Set {
             set.proposition(0x11, k, i32::MIN, k - 1);
         }
     }
+    set
+}
+
+/// What holds in a random model: a block and a position for each atom, and for each address what is read there. About half of
+/// the propositions are equalities.
+pub fn model(r: &mut Numbers, size: usize) -> Set {
+    let blocks = size / 16;
+    let mut set = Set::default();
+    let (mut values, mut memory) = (Vec::new(), HashMap::new());
+    for k in 0..size {
+        let any = (r.below(blocks), 4 * r.below(8) as i32);
+        values.push(if k < blocks {
+            set.term(1, k, 0);
+            (k, 0)
+        } else if r.one_in(4) {
+            set.term(2, k, 0);
+            any
+        } else {
+            let (inner, offset) = (r.below(k), 4 * r.below(4) as i32);
+            set.term(3, inner, offset);
+            let (block, position): (usize, i32) = values[inner];
+            *memory.entry((block, position + offset)).or_insert(any)
+        });
+    }
+    while set.m < size {
+        let (left, right) = (r.below(size), r.below(size));
+        let distance = values[left].1 - values[right].1;
+        if values[left].0 == values[right].0 {
+            set.proposition(0x11, left, distance, right);
+        } else if r.one_in(2 * blocks) {
+            set.proposition(0x12, left, distance, right);
+        } else if r.one_in(2 * blocks) {
+            set.proposition(0x13, left, 0, right);
+        }
+    }
+    set
+}
+
+/// Atoms joined in a star, each read: all read one address.
+pub fn star(size: usize) -> Set {
+    let mut set = Set::default();
+    let atoms = size / 2;
+    for k in 0..atoms {
+        set.term(2, k, 0);
+        if k > 0 {
+            set.proposition(0x11, k, 4 * k as i32, 0);
+        }
+    }
+    for k in 0..atoms {
+        set.term(3, k, -4 * k as i32);
+    }
+    set
+}
+
+/// Atoms, each read, where each read is the atom before. The last two atoms are equal, and E4 leads back from them to the first.
+pub fn leading_back(size: usize) -> Set {
+    let mut set = Set::default();
+    let atoms = size / 2;
+    for k in 0..atoms {
+        set.term(2, k, 0);
+    }
+    for k in 0..atoms {
+        let read = set.term(3, k, 0);
+        if k > 0 {
+            set.proposition(0x11, read, 0, k - 1);
+        }
+    }
+    set.proposition(0x11, atoms - 1, 0, atoms - 2);
+    set
+}
+
+/// Atoms, each read, and as many disequalities as terms.
+pub fn disequalities(r: &mut Numbers, size: usize) -> Set {
+    let mut set = Set::default();
+    for k in 0..size / 2 {
+        set.term(2, k, 0);
+    }
+    for k in 0..size / 2 {
+        set.term(3, k, 0);
+    }
+    while set.m < size {
+        let (left, offset, right) = (r.below(size), 4 * r.below(4) as i32, r.below(size));
+        if left != right {
+            set.proposition(0x12, left, offset, right);
+        }
+    }
+    set
+}
+
+/// Dereferences of two atoms, each listed twice. Each first listing is tied to the second listing before it, so that E4 makes one class
+/// of them.
+pub fn listed_twice(size: usize) -> Set {
+    let mut set = Set::default();
+    set.term(2, 0, 0);
+    set.term(2, 1, 0);
+    while set.n + 1 < size {
+        let (atom, offset) = (set.n / 2 % 2, 4 * set.n as i32);
+        let listing = set.term(3, atom, offset);
+        set.term(3, atom, offset);
+        if listing > 2 {
+            set.proposition(0x11, listing, 4, listing - 1);
+        }
+    }
+    set
+}
+
+/// As `listed_twice`, closed to a contradictory cycle.
+pub fn listed_twice_in_a_cycle(size: usize) -> Set {
+    let mut set = listed_twice(size);
+    set.proposition(0x11, 2, 0, set.n - 1);
     set
 }
 

@@ -1,44 +1,109 @@
-//! The proved solver beside the second solver, in one run: the time of each on full sets of four families and its ratio, how the time
-//! grows from 128 to 256 to 512 terms, blame on a contradictory full set beside one verdict on it, and both readers on full texts.
+//! The proved solver beside the second solver, in one run: the time of each on sets of ten families and its ratio, how the time grows
+//! from 128 to 256 to 512 terms, for a whole solve and for the verdict alone; blame on a contradictory full set beside one verdict on
+//! it; and both readers on full texts.
 
 use comparison::proved;
 use comparison::sets::{self, Numbers, Set};
 use second_solver::reader::{self, Tables};
-use second_solver::tables::{self, Input, Lent, Outcome};
+use second_solver::tables::{self, Lent, Outcome};
 use std::hint::black_box;
 use std::time::Instant;
 
-/// Seconds of the fastest of several calls, and the outcome.
-fn time(solve: fn(&Input, &mut Lent) -> Outcome, set: &Set, calls: usize) -> (f64, Outcome) {
-    let cells = set.needed();
-    let (mut a, mut b) = (vec![0u32; cells[0]], vec![0i64; cells[1]]);
-    let (mut c, mut d, mut e) = (vec![0u8; cells[2]], vec![0u8; cells[3]], vec![0u8; cells[4]]);
-    let (mut best, mut outcome) = (f64::MAX, Outcome::Satisfiable);
-    for _ in 0..calls {
-        let mut lent =
-            Lent { representatives: &mut a, offsets: &mut b, marks: &mut c, pair_bits: &mut d, answers: &mut e };
-        let start = Instant::now();
-        outcome = solve(&set.input(), &mut lent);
-        best = best.min(start.elapsed().as_secs_f64());
+/// Memory to lend for a set.
+struct Memory {
+    representatives: Vec<u32>,
+    offsets: Vec<i64>,
+    marks: Vec<u8>,
+    pair_bits: Vec<u8>,
+    answers: Vec<u8>,
+}
+
+impl Memory {
+    fn of(set: &Set) -> Memory {
+        let cells = set.needed();
+        Memory {
+            representatives: vec![0; cells[0]],
+            offsets: vec![0; cells[1]],
+            marks: vec![0; cells[2]],
+            pair_bits: vec![0; cells[3]],
+            answers: vec![0; cells[4]],
+        }
     }
-    (best, outcome)
+
+    fn lent(&mut self) -> Lent<'_> {
+        Lent {
+            representatives: &mut self.representatives,
+            offsets: &mut self.offsets,
+            marks: &mut self.marks,
+            pair_bits: &mut self.pair_bits,
+            answers: &mut self.answers,
+        }
+    }
+
+    fn blamed(&self) -> usize {
+        self.marks.iter().filter(|&&mark| mark == 1).count()
+    }
+}
+
+/// Seconds of the fastest of 20 calls, and the outcome. Fewer calls once they have taken a second.
+fn fastest(mut call: impl FnMut() -> Outcome) -> (f64, Outcome) {
+    let begin = Instant::now();
+    let mut timed = || {
+        let start = Instant::now();
+        let outcome = black_box(call());
+        (start.elapsed().as_secs_f64(), outcome)
+    };
+    let mut best = timed();
+    for _ in 1..20 {
+        if begin.elapsed().as_secs_f64() < 1.0 {
+            best.0 = best.0.min(timed().0);
+        }
+    }
+    best
+}
+
+/// The columns of both solvers' times, their ratio and the growth since the proved solver's last time; that time; the outcome.
+fn beside(ours: (f64, Outcome), theirs: (f64, Outcome), last: Option<f64>) -> (String, f64, Outcome) {
+    assert_eq!(ours.1, theirs.1);
+    let growth = last.map_or("-".into(), |last| format!("{:.1}", ours.0 / last));
+    let times = format!("{:>9.3} {:>9.3} {:>7.2} {growth:>6}", ours.0 * 1e3, theirs.0 * 1e3, ours.0 / theirs.0);
+    (times, ours.0, ours.1)
 }
 
 fn family(name: &str, build: fn(&mut Numbers, usize) -> Set) {
-    let mut last = 0.0;
+    let mut last = [None; 2];
     for size in [128, 256, 512] {
         let mut r = Numbers(7);
         let mut set = build(&mut r, size);
         sets::questions(&mut r, &mut set, size);
-        let (ours, verdict) = time(proved::solve, &set, 5);
-        let (theirs, _) = time(tables::solve, &set, 5);
-        let growth = if last > 0.0 { format!("{:.1}", ours / last) } else { "-".into() };
-        println!(
-            "{name:<12} {size:>4} terms {:>4} propositions: {:>9.3} ms, second {:>9.3} ms, ratio {:>6.2}, growth {growth} ({verdict:?})",
-            set.m, ours * 1e3, theirs * 1e3, ours / theirs
-        );
-        last = ours;
+        let (input, mut memory) = (set.input(), Memory::of(&set));
+        let theirs = fastest(|| tables::solve(&input, &mut memory.lent()));
+        let ours = fastest(|| proved::solve(&input, &mut memory.lent()));
+        let (whole, seconds, outcome) = beside(ours, theirs, last[0]);
+        last[0] = Some(seconds);
+        let (ours, theirs) = (fastest(|| proved::verdict(&input)), fastest(|| tables::verdict_only(&input)));
+        let (alone, seconds, _) = beside(ours, theirs, last[1]);
+        last[1] = Some(seconds);
+        let blame = if outcome == Outcome::Contradiction { format!(", {} blamed", memory.blamed()) } else { "".into() };
+        println!("{name:<16} {:>5} {:>12}  {whole}  {alone}  {outcome:?}{blame}", set.n, set.m);
     }
+}
+
+fn families() {
+    println!("{:>46} {:>44}", "solve (ms)", "verdict alone (ms)");
+    let times = format!("{:>9} {:>9} {:>7} {:>6}", "proved", "second", "ratio", "growth");
+    println!("{:<16} {:>5} {:>12}  {times}  {times}", "family", "terms", "propositions");
+    family("chains", |_, size| sets::chains(size));
+    family("tied chains", |_, size| sets::tied_chains(size));
+    family("classes", sets::classes);
+    family("one class", |_, size| sets::one_class(size));
+    family("random model", sets::model);
+    family("star, read", |_, size| sets::star(size));
+    family("leading back", |_, size| sets::leading_back(size));
+    family("disequalities", sets::disequalities);
+    family("listed twice", |_, size| sets::listed_twice(size));
+    family("twice, in cycle", |_, size| sets::listed_twice_in_a_cycle(size));
+    println!();
 }
 
 /// The median seconds of so many calls.
@@ -56,21 +121,17 @@ fn median(calls: usize, mut call: impl FnMut()) -> f64 {
 
 /// Blame on a contradictory full set, beside one verdict on it. Blame makes a verdict for the set and one for each proposition.
 fn blame(name: &str, set: &Set) {
-    let cells = set.needed();
-    let (mut a, mut b) = (vec![0u32; cells[0]], vec![0i64; cells[1]]);
-    let (mut c, mut d, mut e) = (vec![0u8; cells[2]], vec![0u8; cells[3]], vec![0u8; cells[4]]);
+    let mut memory = Memory::of(set);
     let verdict = proved::verdict(&set.input());
     let one = median(101, || {
         black_box(proved::verdict(black_box(&set.input())));
     });
     let whole = median(5, || {
-        let mut lent =
-            Lent { representatives: &mut a, offsets: &mut b, marks: &mut c, pair_bits: &mut d, answers: &mut e };
-        black_box(proved::solve(black_box(&set.input()), &mut lent));
+        black_box(proved::solve(black_box(&set.input()), &mut memory.lent()));
     });
     println!(
         "{name:<12} {} terms {} propositions, {} blamed: {:.3} ms, one verdict {:.3} ms, ratio {:.0}, at most 600 ({verdict:?})",
-        set.n, set.m, c.iter().filter(|&&mark| mark == 1).count(), whole * 1e3, one * 1e3, whole / one
+        set.n, set.m, memory.blamed(), whole * 1e3, one * 1e3, whole / one
     );
 }
 
@@ -94,10 +155,7 @@ fn reading(name: &str, set: &Set) {
 }
 
 fn main() {
-    family("chains", |_, size| sets::chains(size));
-    family("tied chains", |_, size| sets::tied_chains(size));
-    family("classes", sets::classes);
-    family("one class", |_, size| sets::one_class(size));
+    families();
     let mut two = sets::one_class(511);
     two.term(2, 511, 0);
     two.proposition(0x11, 0, 1, 1);
