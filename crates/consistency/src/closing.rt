@@ -94,7 +94,7 @@ fn lookup(
     terms: &[TermRow],
     parents: &mut [u32],
     offs: &mut [i64],
-    notes: &mut [u32],
+    notes: &mut [u16],
     start: usize,
     x: TermNumber,
     at: Root,
@@ -125,7 +125,7 @@ fn merge(
     terms: &[TermRow],
     parents: &mut [u32],
     offs: &mut [i64],
-    notes: &mut [u32],
+    notes: &mut [u16],
     shifts: &mut [u64],
     x: TermNumber,
     y: TermNumber,
@@ -151,7 +151,7 @@ fn step(
     terms: &[TermRow],
     parents: &mut [u32],
     offs: &mut [i64],
-    notes: &mut [u32],
+    notes: &mut [u16],
     shifts: &mut [u64],
     x: TermNumber,
 ) -> bool
@@ -176,7 +176,7 @@ fn step(
 }
 
 // Lists the dereferences over each class, and puts all on the stack, the lowest on top.
-fn list_uses(terms: &[TermRow], parents: &mut [u32], offs: &mut [i64], notes: &mut [u32])
+fn list_uses(terms: &[TermRow], parents: &mut [u32], offs: &mut [i64], notes: &mut [u16])
     requires { ⌜ AcceptedTerms (length (now terms)) (termAt (now terms)) × Labels (length (now terms)) (now parents) (now offs) ⌝ }
     ensures { λ _. ⌜ Unchanged (before parents) (before offs) (after parents) (after offs) ⌝ }
 {
@@ -196,7 +196,7 @@ fn chase(
     terms: &[TermRow],
     parents: &mut [u32],
     offs: &mut [i64],
-    notes: &mut [u32],
+    notes: &mut [u16],
     shifts: &mut [u64],
 ) -> bool
     requires { ⌜ AcceptedTerms (length (now terms)) (termAt (now terms)) × Labels (length (now terms)) (now parents) (now offs) ⌝ }
@@ -241,7 +241,7 @@ pub(crate) fn close(terms: &[TermRow], parents: &mut [u32], offs: &mut [i64]) ->
     requires { ⌜ AcceptedTerms (length (now terms)) (termAt (now terms)) × Labels (length (now terms)) (now parents) (now offs) ⌝ }
     ensures { λ r. ⌜ Closing (length (before terms)) (termAt (before terms)) (before parents) (before offs) (after parents) (after offs) r ⌝ }
 {
-    let mut notes = [0u32; 8192];
+    let mut notes = [0u16; 8192];
     let mut shifts = [0u64; 512];
     list_uses(terms, parents, offs, &mut notes);
     if !chase(terms, parents, offs, &mut notes, &mut shifts) {

@@ -27,15 +27,15 @@ const HEIGHT: usize = 3584;
 // The table of addresses, in the cells from 4096 on.
 const SLOTS: usize = 4096;
 
-fn wide(x: u32) -> usize
-    ensures { λ r. ⌜ r < 2 ^ 32 ⌝ }
+fn wide(x: u16) -> usize
+    ensures { λ r. ⌜ r < 2 ^ 16 ⌝ }
 {
     x as usize
 }
 
 // Cell i of a part; 0 where there is none.
-fn peek(notes: &[u32], part: usize, i: usize) -> usize
-    ensures { λ r. ⌜ r < 2 ^ 32 ⌝ }
+fn peek(notes: &[u16], part: usize, i: usize) -> usize
+    ensures { λ r. ⌜ r < 2 ^ 16 ⌝ }
 {
     let k = part % 4096 + i % 512;
     if k < notes.len() {
@@ -44,16 +44,16 @@ fn peek(notes: &[u32], part: usize, i: usize) -> usize
     0
 }
 
-fn poke(notes: &mut [u32], part: usize, i: usize, value: usize) {
+fn poke(notes: &mut [u16], part: usize, i: usize, value: usize) {
     let k = part % 4096 + i % 512;
     if k < notes.len() {
-        notes[k] = (value % 4294967296) as u32;
+        notes[k] = (value % 65536) as u16;
     }
 }
 
 // One more than the dereference in a slot of the table; 0 where it is empty.
-pub(crate) fn slot(notes: &[u32], s: usize) -> usize
-    ensures { λ r. ⌜ r < 2 ^ 32 ⌝ }
+pub(crate) fn slot(notes: &[u16], s: usize) -> usize
+    ensures { λ r. ⌜ r < 2 ^ 16 ⌝ }
 {
     let k = SLOTS + s % 4096;
     if k < notes.len() {
@@ -62,10 +62,10 @@ pub(crate) fn slot(notes: &[u32], s: usize) -> usize
     0
 }
 
-pub(crate) fn set_slot(notes: &mut [u32], s: usize, x: usize) {
+pub(crate) fn set_slot(notes: &mut [u16], s: usize, x: usize) {
     let k = SLOTS + s % 4096;
     if k < notes.len() {
-        notes[k] = (x % 512 + 1) as u32;
+        notes[k] = (x % 512 + 1) as u16;
     }
 }
 
@@ -85,7 +85,7 @@ fn set_shift(shifts: &mut [u64], class: usize, value: u64) {
 }
 
 // The name of a class in the table: one more than its number, until it takes another's.
-fn name(notes: &[u32], class: usize) -> usize {
+fn name(notes: &[u16], class: usize) -> usize {
     let named = peek(notes, NAME, class);
     if named != 0 {
         return named;
@@ -102,14 +102,14 @@ fn slot_of(name: usize, key: u64) -> usize {
 }
 
 // The slot where the search for an address starts.
-pub(crate) fn first_slot(notes: &[u32], shifts: &[u64], at: Root) -> usize {
+pub(crate) fn first_slot(notes: &[u16], shifts: &[u64], at: Root) -> usize {
     let class = at.term.0;
     let key = wrapping_sub_u64(bits(at.offset), shift(shifts, class));
     slot_of(name(notes, class), key)
 }
 
 // Puts x on the stack, unless it is there.
-fn push(notes: &mut [u32], x: usize) {
+fn push(notes: &mut [u16], x: usize) {
     if peek(notes, WAITING, x) != 0 {
         return;
     }
@@ -120,7 +120,7 @@ fn push(notes: &mut [u32], x: usize) {
 }
 
 // One more than the use on top of the stack, which is taken off; 0 where the stack is empty.
-pub(crate) fn pop(notes: &mut [u32]) -> usize {
+pub(crate) fn pop(notes: &mut [u16]) -> usize {
     let height = peek(notes, HEIGHT, 0);
     if height == 0 {
         return 0;
@@ -132,7 +132,7 @@ pub(crate) fn pop(notes: &mut [u32]) -> usize {
 }
 
 // Puts the uses of a class on the stack.
-fn push_uses(notes: &mut [u32], class: usize) {
+fn push_uses(notes: &mut [u16], class: usize) {
     let mut next = peek(notes, FIRST, class);
     for _ in 0..512usize {
         if next == 0 {
@@ -144,7 +144,7 @@ fn push_uses(notes: &mut [u32], class: usize) {
 }
 
 // Puts a list of uses, given by its first, after those of a class.
-fn link_after(notes: &mut [u32], class: usize, first: usize) {
+fn link_after(notes: &mut [u16], class: usize, first: usize) {
     if peek(notes, FIRST, class) == 0 {
         poke(notes, FIRST, class, first);
         return;
@@ -154,7 +154,7 @@ fn link_after(notes: &mut [u32], class: usize, first: usize) {
 }
 
 // Puts the dereference x to the uses of a class and on the stack.
-pub(crate) fn add_use(notes: &mut [u32], class: usize, x: usize) {
+pub(crate) fn add_use(notes: &mut [u16], class: usize, x: usize) {
     link_after(notes, class, x % 512 + 1);
     let size = peek(notes, SIZE, class);
     poke(notes, LAST, class, x);
@@ -163,7 +163,7 @@ pub(crate) fn add_use(notes: &mut [u32], class: usize, x: usize) {
 }
 
 // Moves the uses of one class to the end of another's.
-fn append_uses(notes: &mut [u32], from: usize, to: usize) {
+fn append_uses(notes: &mut [u16], from: usize, to: usize) {
     let first = peek(notes, FIRST, from);
     if first == 0 {
         return;
@@ -177,7 +177,7 @@ fn append_uses(notes: &mut [u32], from: usize, to: usize) {
 
 // The uses of the class that has fewer are to be looked at again, where `from` is d + `to`; the others keep their places in the table,
 // under their name.
-fn keep_larger(notes: &mut [u32], shifts: &mut [u64], from: usize, d: u64, to: usize) {
+fn keep_larger(notes: &mut [u16], shifts: &mut [u64], from: usize, d: u64, to: usize) {
     if peek(notes, SIZE, from) <= peek(notes, SIZE, to) {
         push_uses(notes, from);
         return;
@@ -190,13 +190,13 @@ fn keep_larger(notes: &mut [u32], shifts: &mut [u64], from: usize, d: u64, to: u
 }
 
 // Joins the uses of two classes, where `from` is d + `to`.
-fn merge_uses(notes: &mut [u32], shifts: &mut [u64], from: usize, d: u64, to: usize) {
+fn merge_uses(notes: &mut [u16], shifts: &mut [u64], from: usize, d: u64, to: usize) {
     keep_larger(notes, shifts, from, d, to);
     append_uses(notes, from, to);
 }
 
 // Joins the uses of the classes of two terms that are equal, given their labels before the classes were joined.
-pub(crate) fn join_uses(notes: &mut [u32], shifts: &mut [u64], a: Root, b: Root) {
+pub(crate) fn join_uses(notes: &mut [u16], shifts: &mut [u64], a: Root, b: Root) {
     let i = a.term.0;
     let j = b.term.0;
     if j < i {
