@@ -47,7 +47,7 @@ pub record Downward (z : ℤ) : Type 0 where
   pub less : SFits w64 (negsuc 0 -ℤ toZ w64 (ofZ w64 z))
   pub upward : T (nonNeg (toZ w64 (ofZ w64 (negsuc 0 -ℤ toZ w64 (ofZ w64 z)))))
   pub fits : Fits w64 (natAbs (toZ w64 (ofZ w64 (negsuc 0 -ℤ toZ w64 (ofZ w64 z)))))
-  pub low : natAbs (toZ w64 (ofZ w64 (negsuc 0 -ℤ toZ w64 (ofZ w64 z)))) ≤ 2 ^ 64 - 1
+  pub low : natAbs (toZ w64 (ofZ w64 (negsuc 0 -ℤ toZ w64 (ofZ w64 z)))) < 2 ^ 63
   pub is : 2 ^ 64 - 1 - natAbs (toZ w64 (ofZ w64 (negsuc 0 -ℤ toZ w64 (ofZ w64 z)))) ≡ ofZ w64 z
 
 pub negative : (z : ℤ) → SFits w64 z → leZ (pos 0) (toZ w64 (ofZ w64 z)) ≡ false → Downward z

@@ -1,3 +1,4 @@
+use native.Mathlib.Omega.{arith}
 use Rattle.offsets.specs.Bits.{not-negative, negative}
 use Rattle.offsets.proofs.bits.Statement.{statement}
 use Rattle.offsets.proofs.bits.Tie as tie
@@ -16,7 +17,7 @@ cast-result-2 c =
     (d .upward, d .fits)
 
 sub-result-2 : tie.Need-sub-result-2
-sub-result-2 c = negative (c .before .args .z) (c .before .fits .z) (c .if1 .left) .low
+sub-result-2 c = omega (arith, negative (c .before .args .z) (c .before .fits .z) (c .if1 .left) .low)
 
 returns : tie.Need-returns
 returns c = not-negative (c .before .args .z) (c .before .fits .z) (c .if1 .taken) .is
