@@ -27,7 +27,7 @@ pub enum Met {
 }
 
 // Whether the propositions that are marked are consistent. If they are, the labels are the closure's; else what is left in them is not
-// told. Public for the crate `solver`.
+// told. Public for the crates `solving` and `congruence`.
 pub fn is_consistent(
     terms: &[TermRow],
     propositions: &[PropositionRow],

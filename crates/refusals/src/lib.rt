@@ -1,4 +1,4 @@
-// The refusals of the three tables, in their order.
+// The refusals of the three tables, in their order. The functions are public for the crate `solving`.
 mod fields;
 mod propositions;
 mod questions;
