@@ -1,7 +1,5 @@
--- What the functions of this crate need and leave.
-pub mod Relabelling
+-- The rows of a set in columns, and the verdict on its kept propositions.
+pub mod Filling
 pub mod Joining
 pub mod Live
-pub mod Addresses
-pub mod Closing
 pub mod Deciding

@@ -8,3 +8,4 @@ pub mod Joins
 pub mod Steps
 pub mod View
 pub mod Clearing
+pub mod Agree

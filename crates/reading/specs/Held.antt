@@ -8,7 +8,6 @@ use lib.ListN.{length, take, drop, getD, length-map, List·getD-append}
 use lib.Seq.{take-length}
 use mir.Syntax.{w64}
 use mir.Val.{SFits}
-use mir.ValLaws.{toZ-ofZ}
 use Rattle.lists.specs.Items.{Item, item-below, item-map}
 use Rattle.lists.specs.Tabulate.{tabulate}
 use Rattle.types.specs.declared.QuestionRecord.{QuestionRecord}
@@ -19,6 +18,7 @@ use Rattle.tables.specs.Stands.{StandsFor, stands-for, deref-within, asserts, i
 use Rattle.tables.specs.Refusals.{termFault, propositionFault, questionFault}
 use Rattle.tables.specs.RefusalLaws.{orElse-none, malformed-none}
 use Rattle.tables.specs.Rows.{Row, termOfRow, termRow, termAt, propositionOfRow, propositionRow, propositionAt, questionOfRow, questionRow, questionAt}
+use Rattle.tables.specs.RowLaws.{term-back, proposition-back, question-back}
 use Rattle.tables.specs.TermTable.{termsFrom}
 use Rattle.tables.specs.PropositionTable.{propositionsFrom}
 use Rattle.tables.specs.QuestionTable.{asked, questionsFrom}
@@ -50,19 +50,6 @@ unfolding questionFault questionOf
 question-fits n q e =
     let well = malformed-none (questionOf q) (orElse-none _ _ e .0) in
     within-fits (omega arith) (in-range (q .offset) (when-some (offsetInRange (q .offset)) q (well .0) (well .1) .0))
-
--- a row read back
-term-back : (r : TermRecord) → SFits w64 (r .offset) → termOfRow (termRow r) ≡ r
-unfolding termOfRow termRow
-term-back r f = rw (toZ-ofZ w64 (r .offset) f)
-
-proposition-back : (p : PropositionRecord) → SFits w64 (p .offset) → propositionOfRow (propositionRow p) ≡ p
-unfolding propositionOfRow propositionRow
-proposition-back p f = rw (toZ-ofZ w64 (p .offset) f)
-
-question-back : (q : QuestionRecord) → SFits w64 (q .offset) → questionOfRow (questionRow q) ≡ q
-unfolding questionOfRow questionRow
-question-back q f = rw (toZ-ofZ w64 (q .offset) f)
 
 tabulate-map : {A B : Type 0} (g : A → B) (f : ℕ → A) (l : List A) (k : ℕ)
     → ((i : ℕ) (x : A) → Item l i x → f (k + i) ≡ x)

@@ -2,6 +2,7 @@
 pub mod Limits
 pub mod Records
 pub mod Rows
+pub mod RowLaws
 pub mod Refusals
 pub mod RefusalLaws
 pub mod Call

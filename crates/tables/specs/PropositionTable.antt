@@ -13,7 +13,7 @@ use lib.ListN.{length, getD}
 use borrow.Author.Tests.{leb-false}
 use Rattle.lists.specs.Booleans.{or-false}
 use Rattle.lists.specs.Items.{Item, In, item-below, item-getD, getD-item}
-use Rattle.lists.specs.Tabulate.{tabulate, length-tabulate, from-zero}
+use Rattle.lists.specs.Tabulate.{tabulate, length-tabulate, from-zero, tabulate-ext}
 use Rattle.types.specs.declared.Refusal.{Refusal}
 use Rattle.types.specs.declared.Refusal.the-variants.{PropositionTermNotListed}
 use Rattle.rules.specs.Terms.{Term, Proposition, equality, disequality, block-disequality, Given, DistinctVariables, listed, WellFormed}
@@ -40,6 +40,11 @@ AcceptedPropositions n m rec = (k : ℕ) → k < m → propositionFault n (rec k
 pub length-propositions-from : (m : ℕ) (rec : ℕ → PropositionRecord) → length (propositionsFrom m rec) ≡ m
 unfolding propositionsFrom
 length-propositions-from m rec = length-tabulate (λ k. orDefault (block-disequality 0 0) (propositionOf (rec k))) 0 m
+
+-- records that are the same assert the same propositions
+pub propositions-from-ext : (m : ℕ) (f g : ℕ → PropositionRecord) → ((k : ℕ) → k < m → f k ≡ g k) → propositionsFrom m f ≡ propositionsFrom m g
+unfolding propositionsFrom
+propositions-from-ext m f g same = tabulate-ext _ _ 0 m (λ k h. ap (λ (r : PropositionRecord). orDefault (block-disequality 0 0) (propositionOf r)) (same k (omega arith)))
 
 module _ (n m : ℕ) (rec : ℕ → PropositionRecord) (accepted : AcceptedPropositions n m rec) where
   -- a proposition of the set, and the record that asserts it

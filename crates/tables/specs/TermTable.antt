@@ -12,7 +12,7 @@ use lib.ListN.{length, getD}
 use borrow.Author.Tests.{eq-eqb, leb-false}
 use Rattle.lists.specs.Items.{Item, item-below, item-getD, getD-item}
 use Rattle.lists.specs.Search.{any, any-false}
-use Rattle.lists.specs.Tabulate.{tabulate, length-tabulate, from-zero}
+use Rattle.lists.specs.Tabulate.{tabulate, length-tabulate, from-zero, tabulate-ext}
 use Rattle.types.specs.declared.Refusal.{Refusal}
 use Rattle.types.specs.declared.Refusal.the-variants.{InnerNotListed, AtomListedTwice}
 use Rattle.rules.specs.Terms.{Term, variable, auxiliary, deref, DistinctVariables}
@@ -45,6 +45,11 @@ default-some d (some b) x a e f = ap some (sym f)
 pub length-terms-from : (n : ℕ) (rec : ℕ → TermRecord) → length (termsFrom n rec) ≡ n
 unfolding termsFrom
 length-terms-from n rec = length-tabulate (λ k. orDefault (auxiliary 0) (termOf (rec k))) 0 n
+
+-- records that are the same stand for the same terms
+pub terms-from-ext : (n : ℕ) (f g : ℕ → TermRecord) → ((k : ℕ) → k < n → f k ≡ g k) → termsFrom n f ≡ termsFrom n g
+unfolding termsFrom
+terms-from-ext n f g same = tabulate-ext _ _ 0 n (λ k h. ap (λ (r : TermRecord). orDefault (auxiliary 0) (termOf r)) (same k (omega arith)))
 
 module _ (n : ℕ) (rec : ℕ → TermRecord) (accepted : AcceptedTerms n rec) where
   -- a term of the set, and the record that stands for it
