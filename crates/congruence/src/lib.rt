@@ -88,7 +88,9 @@ pub fn is_consistent(
 ) -> bool
     requires { ⌜ Good (setOf n (now kinds) (now numbers) (now zs) m (now pkinds) (now lefts) (now pzs) (now rights)) ⌝ }
     requires { ⌜ (m ≤ length (now marks)) × ((n ≤ length (now reps)) × ((n ≤ length (now offs)) × (n ≤ length (now partners)))) ⌝ }
-    ensures { λ r. ⌜ Decided (setOf n (before kinds) (before numbers) (before zs) m (before pkinds) (before lefts) (before pzs) (before rights)) (before marks) (after reps) (after offs) r ⌝ }
+    ensures { λ r.
+        let T = setOf n (before kinds) (before numbers) (before zs) m (before pkinds) (before lefts) (before pzs) (before rights) in
+        ⌜ Decided T (before marks) (after reps) (after offs) r ⌝ }
 {
     let mut terms = [[0u64; 3]; 512];
     let mut propositions = [[0u64; 4]; 512];

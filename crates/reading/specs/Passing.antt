@@ -16,7 +16,7 @@ use Rattle.tables.specs.RefusalLaws.{both-none, not-faulty, all-none}
 use Rattle.tables.specs.TermTable.{termsFault}
 use Rattle.tables.specs.PropositionTable.{propositionsFault}
 use Rattle.tables.specs.QuestionTable.{questionsFault}
-use Rattle.tables.specs.TableFaults.{Tables, Sized, sizesFault, recordsFault, tablesFault, Accepted as AcceptedTables}
+use Rattle.tables.specs.TableFaults.{Tables, tablesOf, Sized, recordsFault, tablesFault, Accepted as AcceptedTables, lengthsFault}
 use Rattle.tables.specs.Call.{overwrite}
 use Rattle.text.specs.Reading.{Records, Reading, accepted, refused}
 use Rattle.text.specs.Sound.{Sound, accepted-sound}
@@ -27,17 +27,13 @@ use Rattle.reading.specs.Loading.{countsOf}
 use Rattle.reading.specs.Answers.{readInto, answer, left, ReadAs, read-into}
 use Rattle.reading.specs.Held.{term-held, proposition-held, question-held, front-held}
 
--- the tables of so many records each
-abbrev pub tablesOf : Counts → Rows → Tables
-tablesOf c D = record {
-  terms = record { count = c .terms; rows = D .terms };
-  propositions = record { count = c .propositions; rows = D .propositions };
-  questions = record { count = c .questions; rows = D .questions };
-}
+-- the tables that `read` leaves: so many records each
+abbrev pub readTables : Counts → Rows → Tables
+readTables c D = tablesOf (c .terms) (D .terms) (c .propositions) (D .propositions) (c .questions) (D .questions)
 
 -- tables of which every test is passed have no fault
 unrefused : (T : Tables) → Sized most T → AcceptedTables T → tablesFault most T ≡ none
-unfolding tablesFault sizesFault recordsFault termsFault propositionsFault questionsFault
+unfolding tablesFault lengthsFault recordsFault termsFault propositionsFault questionsFault
 unrefused T s a =
     both-none _ _
     (both-none _ _ (not-faulty _ _ _ (le-ltb _ _ (s .few-terms)))
@@ -51,7 +47,7 @@ overwrite-long : {A B : Type 0} (f : A → B) (rs : List A) (old : List B) → l
 overwrite-long f rs old = omega (arith, length-append (map f rs) (drop (length (map f rs)) old), length-map rs f)
 
 module _ (R : Records) (C : Rows) (s : Sound R) where
-  sized : Sized most (tablesOf (countsOf R) (written R C))
+  sized : Sized most (readTables (countsOf R) (written R C))
   unfolding written
   sized = record {
     few-terms = s .few-terms;
@@ -62,7 +58,7 @@ module _ (R : Records) (C : Rows) (s : Sound R) where
     questions-long = overwrite-long _ (R .questions) (C .questions);
   }
 
-  faultless : AcceptedTables (tablesOf (countsOf R) (written R C))
+  faultless : AcceptedTables (readTables (countsOf R) (written R C))
   faultless = record {
     terms = λ k h.
         let d : TermRecord = record { kind = 0; number = 0; offset = pos 0 } in
@@ -82,12 +78,12 @@ module _ (R : Records) (C : Rows) (s : Sound R) where
   }
 
 -- what `read` leaves where it accepts a text
-pub read-passes : (text : List ℕ) (C : Rows) (c : Counts) (D : Rows) → ReadAs text C (Accepted c) D → tablesFault most (tablesOf c D) ≡ none
+pub read-passes : (text : List ℕ) (C : Rows) (c : Counts) (D : Rows) → ReadAs text C (Accepted c) D → tablesFault most (readTables c D) ≡ none
 read-passes text C c D read = go (readInto C text) refl (read .result) (read .cells)
   where
-    go : (o : Reading) → readInto C text ≡ o → Accepted c ≡ answer o → D ≡ left o C → tablesFault most (tablesOf c D) ≡ none
+    go : (o : Reading) → readInto C text ≡ o → Accepted c ≡ answer o → D ≡ left o C → tablesFault most (readTables c D) ≡ none
     go (accepted R) r e cells =
         let is : c ≡ countsOf R = cc in
         let s = accepted-sound text R (read-into text C R r) in
-        rw (is, cells) (unrefused (tablesOf (countsOf R) (written R C)) (sized R C s) (faultless R C s))
+        rw (is, cells) (unrefused (readTables (countsOf R) (written R C)) (sized R C s) (faultless R C s))
     go (refused f) r e cells = let z : _≡_ {A = ℕ} 0 1 = cc in absurd (omega arith)
