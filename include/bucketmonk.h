@@ -1,5 +1,5 @@
 /* Bucketmonk: the proved solver for 2-pointer logic and the reader of its texts, for programs in C.
- * Link libbucketmonk_c.a. No heap is used; one call needs at most 64 KiB of stack, bucketmonk_output at most 128 KiB. Nothing is kept
+ * Link libbucketmonk_c.a. No heap is used; one call needs at most 128 KiB of stack, bucketmonk_output at most 192 KiB. Nothing is kept
  * between calls, so calls with separate memory may run at the same time. */
 #ifndef BUCKETMONK_H
 #define BUCKETMONK_H

@@ -40,11 +40,11 @@ fn run(solve: fn(&Input, &mut Lent) -> Outcome, set: &Set, cells: [usize; 5], me
     solve(&set.input(), &mut lent)
 }
 
-/// The proved solver on a stack of 64 KiB, as the header states.
-fn run_in_64_kib(set: &Set, cells: [usize; 5], memory: &mut Memory) -> Outcome {
+/// The proved solver on a stack of 128 KiB, as the header states.
+fn run_in_128_kib(set: &Set, cells: [usize; 5], memory: &mut Memory) -> Outcome {
     std::thread::scope(|scope| {
         let call = || run(proved::solve, set, cells, memory);
-        let thread = std::thread::Builder::new().stack_size(64 * 1024).spawn_scoped(scope, call);
+        let thread = std::thread::Builder::new().stack_size(128 * 1024).spawn_scoped(scope, call);
         thread.expect("a thread").join().expect("an outcome")
     })
 }
@@ -58,7 +58,7 @@ fn agree(r: &mut Numbers, set: &Set, more: usize) -> (bool, Outcome) {
     let mut left = memory(r, cells);
     let before = left.clone();
     let mut right = left.clone();
-    let a = if set.n < 512 { run(proved::solve, set, cells, &mut left) } else { run_in_64_kib(set, cells, &mut left) };
+    let a = if set.n < 512 { run(proved::solve, set, cells, &mut left) } else { run_in_128_kib(set, cells, &mut left) };
     let b = run(tables::solve, set, cells, &mut right);
     let refused = matches!(a, Outcome::Refused { .. });
     let unchanged = !refused || left == before;

@@ -14,7 +14,7 @@ use std::hash::{Hash, Hasher};
 /// Cells beyond `out`, and bytes before the text.
 const GUARD: usize = 16;
 /// Most failures that are shown.
-const STACK: usize = 128 * 1024;
+const STACK: usize = 192 * 1024;
 const SHOWN: usize = 5;
 /// What stands in memory after the text: a reader that goes too far would find the end of a line or another frame.
 const AFTER: [&[u8]; 4] = [b"\n0000000000000000000", b"020FED\n020FEE\n", b"210000000000000000\n", b"0\n0\n0\n0\n0\n"];
@@ -36,7 +36,7 @@ struct Run {
     largest: usize,
 }
 
-/// The proved function; for longer texts on a stack of 128 KiB, as the header states.
+/// The proved function; for longer texts on a stack of 192 KiB, as the header states.
 fn output_in_128_kib(text: &[u8], out: &mut [u8]) -> usize {
     if text.len() < 4096 {
         return proved::output(text, out);
