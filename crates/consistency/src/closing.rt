@@ -102,7 +102,7 @@ fn lookup(
     requires { ⌜ AcceptedTerms (length (now terms)) (termAt (now terms)) × Labels (length (now terms)) (now parents) (now offs) ⌝ }
     ensures { λ _. ⌜ Unchanged (before parents) (before offs) (after parents) (after offs) ⌝ }
 {
-    for i in 0..64usize {
+    for i in 0..512usize {
         let s = start % 4096 + i;
         let found = slot(notes, s);
         if found == 0 {

@@ -103,6 +103,7 @@ fn families() {
     family("disequalities", sets::disequalities);
     family("listed twice", |_, size| sets::listed_twice(size));
     family("twice, in cycle", |_, size| sets::listed_twice_in_a_cycle(size));
+    family("one slot", |_, size| sets::one_slot(size));
     println!();
 }
 
