@@ -10,15 +10,35 @@
 /* At most so many terms, propositions and questions. */
 #define BUCKETMONK_MOST 512
 
-/* Kinds of terms. */
-#define BUCKETMONK_VARIABLE 0x01    /* the address of a variable; number 0 to 65535, z 0 */
-#define BUCKETMONK_AUXILIARY 0x02   /* an auxiliary; number 0 to 65535, z 0 */
-#define BUCKETMONK_DEREFERENCE 0x03 /* *(z + t); the number is that of t, an earlier term */
+/* A term. Terms, propositions and questions are each numbered from 0. */
+typedef struct {
+    uint64_t kind;
+    uint64_t number;
+    int64_t offset;
+} bucketmonk_term;
 
-/* Kinds of propositions. */
-#define BUCKETMONK_EQUALITY 0x11          /* left = z + right */
-#define BUCKETMONK_DISEQUALITY 0x12       /* left != z + right */
-#define BUCKETMONK_BLOCK_DISEQUALITY 0x13 /* the blocks of left and right differ; z 0 */
+#define BUCKETMONK_VARIABLE 0x01    /* the address of a variable; number 0 to 65535, offset 0 */
+#define BUCKETMONK_AUXILIARY 0x02   /* an auxiliary; number 0 to 65535, offset 0 */
+#define BUCKETMONK_DEREFERENCE 0x03 /* *(offset + t); the number is that of t, an earlier term */
+
+/* A proposition; left and right are the numbers of terms. */
+typedef struct {
+    uint64_t kind;
+    uint64_t left;
+    int64_t offset;
+    uint64_t right;
+} bucketmonk_proposition;
+
+#define BUCKETMONK_EQUALITY 0x11          /* left = offset + right */
+#define BUCKETMONK_DISEQUALITY 0x12       /* left != offset + right */
+#define BUCKETMONK_BLOCK_DISEQUALITY 0x13 /* the blocks of left and right differ; offset 0 */
+
+/* A question: left against offset + right, the numbers of terms. */
+typedef struct {
+    uint64_t left;
+    int64_t offset;
+    uint64_t right;
+} bucketmonk_question;
 
 /* What bucketmonk_solve and bucketmonk_verdict return. */
 #define BUCKETMONK_SATISFIABLE 0
@@ -30,7 +50,8 @@
  * 6: a proposition names a term not listed (place: the proposition)
  * 7: a question names a term not listed (place: the question)
  * 8: a table or lent array is too short (place 0)
- * 9: a kind that does not exist, an atom number above 65535, or a field that is not 0 where its kind has none (place: the record) */
+ * 9: a kind that does not exist, the number of a variable or auxiliary above 65535, an offset below -2147483648 or above 2147483647, or
+ *    an offset that is not 0 where the kind has none (place: the record) */
 #define BUCKETMONK_REFUSAL(result) ((unsigned)((result) >> 16))
 #define BUCKETMONK_PLACE(result) ((unsigned)((result) & 0xFFFF))
 
@@ -47,8 +68,7 @@
  *
  * Needs: every pointer is valid for the length given after it (in elements) and not null, also where the length is 0; the five lent
  * arrays overlap nothing else. Nothing else is asked: every content of the tables and every length gets an answer.
- * Tables, in columns: term k is kinds[k], numbers[k], zs[k]; proposition k is pkinds[k], lefts[k], pzs[k], rights[k]; question k asks
- * qlefts[k] against qzs[k] + qrights[k]. Terms, propositions and questions are each numbered from 0.
+ * Tables: n terms, m propositions, q questions, or more.
  * Lent: n representatives, n offsets, m marks, BUCKETMONK_PAIR_BYTES(n) pair bytes, q answers, or more.
  *
  * Leaves, where the set is satisfiable: for term k its representative (the lowest-numbered term of its class) and its offset from it;
@@ -56,19 +76,9 @@
  * answer. Where the set is contradictory: each term its own representative at offset 0; mark 1 for each proposition that is blamed;
  * pair bits 0; answers 3. Cells beyond those needed are unchanged. A refused call changes nothing. */
 size_t bucketmonk_solve(
-    size_t n,
-    const uint8_t *kinds, size_t kinds_length,
-    const uint32_t *numbers, size_t numbers_length,
-    const int32_t *zs, size_t zs_length,
-    size_t m,
-    const uint8_t *pkinds, size_t pkinds_length,
-    const uint32_t *lefts, size_t lefts_length,
-    const int32_t *pzs, size_t pzs_length,
-    const uint32_t *rights, size_t rights_length,
-    size_t q,
-    const uint32_t *qlefts, size_t qlefts_length,
-    const int32_t *qzs, size_t qzs_length,
-    const uint32_t *qrights, size_t qrights_length,
+    size_t n, const bucketmonk_term *terms, size_t terms_length,
+    size_t m, const bucketmonk_proposition *propositions, size_t propositions_length,
+    size_t q, const bucketmonk_question *questions, size_t questions_length,
     uint32_t *representatives, size_t representatives_length,
     int64_t *offsets, size_t offsets_length,
     uint8_t *marks, size_t marks_length,
@@ -80,15 +90,8 @@ size_t bucketmonk_solve(
  *
  * Needs: as bucketmonk_solve, for the tables. Leaves nothing: no memory is lent. */
 size_t bucketmonk_verdict(
-    size_t n,
-    const uint8_t *kinds, size_t kinds_length,
-    const uint32_t *numbers, size_t numbers_length,
-    const int32_t *zs, size_t zs_length,
-    size_t m,
-    const uint8_t *pkinds, size_t pkinds_length,
-    const uint32_t *lefts, size_t lefts_length,
-    const int32_t *pzs, size_t pzs_length,
-    const uint32_t *rights, size_t rights_length);
+    size_t n, const bucketmonk_term *terms, size_t terms_length,
+    size_t m, const bucketmonk_proposition *propositions, size_t propositions_length);
 
 /* What bucketmonk_read returns: the refusal is 0 where the text is accepted, and then the three counts are those of its records;
  * else its number, 1 to 10, with the number of the faulty line, counted from 0, as the place.
@@ -96,7 +99,7 @@ size_t bucketmonk_verdict(
  * 4: a dereference names a term not listed before it
  * 5: an atom is listed twice
  * 6, 7: a proposition, a question names a term not listed
- * 8: a lent column has less than 512 cells (place 0)
+ * 8: a lent table has room for less than 512 records (place 0)
  * 9: a line that is no frame, or is not ended by a line feed
  * 10: a term after a proposition or question, or a proposition after a question */
 #define BUCKETMONK_READ_REFUSAL(result) ((unsigned)((result) >> 48))
@@ -107,27 +110,20 @@ size_t bucketmonk_verdict(
 
 /* Reads a text, one frame of hexadecimal digits a line, into the tables that bucketmonk_solve takes.
  *
- * Needs: every pointer is valid for the length given after it (in elements) and not null, also where the length is 0; the ten lent
- * columns overlap nothing else. Nothing else is asked: every text and every length gets an answer.
- * Lent: 512 cells in each column, or more.
+ * Needs: every pointer is valid for the length given after it (in elements) and not null, also where the length is 0; the three lent
+ * tables overlap nothing else. Nothing else is asked: every text and every length gets an answer.
+ * Lent: room for 512 records in each table, or more.
  *
- * Leaves, where the text is accepted: record k of each table in cell k of the table's columns. Cells beyond the counts are unchanged.
- * A refused text changes nothing. */
+ * Leaves, where the text is accepted: its records in the tables, in order. Records beyond the counts are unchanged. A refused text
+ * changes nothing. */
 size_t bucketmonk_read(
     const uint8_t *text, size_t text_length,
-    uint8_t *kinds, size_t kinds_length,
-    uint32_t *numbers, size_t numbers_length,
-    int32_t *zs, size_t zs_length,
-    uint8_t *pkinds, size_t pkinds_length,
-    uint32_t *lefts, size_t lefts_length,
-    int32_t *pzs, size_t pzs_length,
-    uint32_t *rights, size_t rights_length,
-    uint32_t *qlefts, size_t qlefts_length,
-    int32_t *qzs, size_t qzs_length,
-    uint32_t *qrights, size_t qrights_length);
+    bucketmonk_term *terms, size_t terms_length,
+    bucketmonk_proposition *propositions, size_t propositions_length,
+    bucketmonk_question *questions, size_t questions_length);
 
-/* Where the faulty line of a text stands, for tables with room for so many terms, propositions and questions: the least length of a
- * table's columns in bucketmonk_read.
+/* Where the faulty line of a text stands, for tables with room for so many terms, propositions and questions: the lengths of the
+ * tables in bucketmonk_read.
  *
  * Needs: text is valid for its length and start for one number, neither is null, and start overlaps nothing else.
  * Returns the length of the line, without its line feed, and leaves its first byte's place in *start. Both are 0 where the text is

@@ -5,24 +5,20 @@
 enum { TERMS = 4, PROPOSITIONS = 1, QUESTIONS = 4 };
 
 int main(void) {
-    const uint8_t kinds[TERMS] = {BUCKETMONK_VARIABLE, BUCKETMONK_AUXILIARY, BUCKETMONK_DEREFERENCE, BUCKETMONK_DEREFERENCE};
-    const uint32_t numbers[TERMS] = {1, 1, 0, 1};
-    const int32_t zs[TERMS] = {0, 0, 0, 4};
-    const uint8_t pkinds[PROPOSITIONS] = {BUCKETMONK_EQUALITY};
-    const uint32_t lefts[PROPOSITIONS] = {1};
-    const int32_t pzs[PROPOSITIONS] = {-4};
-    const uint32_t rights[PROPOSITIONS] = {0};
-    const uint32_t qlefts[QUESTIONS] = {3, 0, 0, 2};
-    const int32_t qzs[QUESTIONS] = {0, 4, 0, 0};
-    const uint32_t qrights[QUESTIONS] = {2, 1, 1, 0};
+    const bucketmonk_term terms[TERMS] = {
+        {BUCKETMONK_VARIABLE, 1, 0},
+        {BUCKETMONK_AUXILIARY, 1, 0},
+        {BUCKETMONK_DEREFERENCE, 0, 0},
+        {BUCKETMONK_DEREFERENCE, 1, 4},
+    };
+    const bucketmonk_proposition propositions[PROPOSITIONS] = {{BUCKETMONK_EQUALITY, 1, -4, 0}};
+    const bucketmonk_question questions[QUESTIONS] = {{3, 0, 2}, {0, 4, 1}, {0, 0, 1}, {2, 0, 0}};
     uint32_t representatives[TERMS];
     int64_t offsets[TERMS];
     uint8_t marks[PROPOSITIONS], pairs[BUCKETMONK_PAIR_BYTES(TERMS)], answers[QUESTIONS];
 
     size_t result = bucketmonk_solve(
-        TERMS, kinds, TERMS, numbers, TERMS, zs, TERMS,
-        PROPOSITIONS, pkinds, PROPOSITIONS, lefts, PROPOSITIONS, pzs, PROPOSITIONS, rights, PROPOSITIONS,
-        QUESTIONS, qlefts, QUESTIONS, qzs, QUESTIONS, qrights, QUESTIONS,
+        TERMS, terms, TERMS, PROPOSITIONS, propositions, PROPOSITIONS, QUESTIONS, questions, QUESTIONS,
         representatives, TERMS, offsets, TERMS, marks, PROPOSITIONS, pairs, sizeof pairs, answers, QUESTIONS);
     if (result > BUCKETMONK_CONTRADICTION) {
         printf("refused: %u, place %u\n", BUCKETMONK_REFUSAL(result), BUCKETMONK_PLACE(result));

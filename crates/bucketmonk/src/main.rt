@@ -1,9 +1,10 @@
-// The program: a text on standard input, frames on standard output. What is written for a text is proved of `output::write_output`;
+// The program: a text on standard input, frames on standard output. What is written for a text is proved of `driver::write_output`;
 // here are the read and the write around it.
-use output::JUDGED;
-use output::LARGEST;
-use output::write_output;
+use driver::JUDGED;
+use driver::LARGEST;
+use driver::write_output;
 ghost use lib.ListN.{length};
+ghost use Rattle.lists.specs.Lent.{after};
 ghost use Rattle.bucketmonk.specs.Input.{Within};
 
 // What came from standard input.
@@ -16,7 +17,7 @@ pub(crate) enum Input {
 
 // Reads standard input until `text` is full, the input ends or a read fails.
 fn read_input(text: &mut [u8]) -> Input
-    ensures { λ r. ⌜ Within r (length (now (text .exit))) ⌝ }
+    ensures { λ r. ⌜ Within r (length (after text)) ⌝ }
 {
     let mut done = 0;
     while done < text.len() {

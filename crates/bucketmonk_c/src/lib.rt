@@ -1,24 +1,28 @@
 // The solver, the reader and the program's output for programs in C. The header is include/bucketmonk.h.
-use output::write_output;
+use driver::write_output;
 use reader::ReadResult;
 use reader::faulty_part;
 use reader::read;
 use solver::solve;
 use solver::verdict;
+use tables::PropositionRow;
+use tables::QuestionRow;
+use tables::TermRow;
 use types::Refusal;
 use types::Solved;
 use types::refusal_number;
 ghost use Prim.Native.Nat.{_≤_};
 ghost use mathlib.Core.Path.{_≡_};
-ghost use Rattle.types.specs.Numbers.{refusalNumber};
 ghost use lib.ListN.{length};
-ghost use Rattle.tables.specs.Call.{overwrite, room, refusal, returned, left, setOf};
-ghost use Rattle.checks.specs.Limits.{tablesOf};
-ghost use Rattle.solver.specs.Answered.{memoryOf};
-ghost use Rattle.solver.specs.Verdict.{verdictOf};
-ghost use Rattle.reader.specs.Columns.{columns};
+ghost use Rattle.lists.specs.Lent.{before, after};
+ghost use Rattle.lists.specs.Overwrite.{overwrite};
+ghost use Rattle.types.specs.Numbers.{refusalNumber};
+ghost use Rattle.tables.specs.Memory.{memoryOf, callFault};
+ghost use Rattle.tables.specs.TableFaults.{tablesOf};
+ghost use Rattle.solver.specs.Call.{returned, left, unasked, verdictOf};
+ghost use Rattle.reader.specs.Rows.{rows};
 ghost use Rattle.reader.specs.Answers.{faultyPart};
-ghost use Rattle.output.specs.Written.{written};
+ghost use Rattle.driver.specs.Within.{outputWithin};
 ghost use Rattle.bucketmonk_c.specs.Numbers.{solvedNumber, readNumber, ReadAsNumber};
 
 // The number of a refusal, as wide as a result.
@@ -35,7 +39,10 @@ fn solved_number(s: Solved) -> usize
     match s {
         Solved::Satisfiable => 0,
         Solved::Contradiction => 1,
-        Solved::Refused(refusal, place) => 65536 * number_of(refusal) + place % 65536,
+        Solved::Refused(fault) => {
+            let refusal = fault.refusal;
+            65536 * number_of(refusal) + fault.place % 65536
+        }
     }
 }
 
@@ -43,41 +50,34 @@ fn solved_number(s: Solved) -> usize
 #[no_mangle]
 pub extern "C" fn bucketmonk_solve(
     n: usize,
-    kinds: &[u8],
-    numbers: &[u32],
-    zs: &[i32],
+    terms: &[TermRow],
     m: usize,
-    pkinds: &[u8],
-    lefts: &[u32],
-    pzs: &[i32],
-    rights: &[u32],
+    propositions: &[PropositionRow],
     q: usize,
-    qlefts: &[u32],
-    qzs: &[i32],
-    qrights: &[u32],
+    questions: &[QuestionRow],
     representatives: &mut [u32],
     offsets: &mut [i64],
     marks: &mut [u8],
     pairs: &mut [u8],
     answers: &mut [u8],
 ) -> usize
-    ensures { λ r. ⌜ r ≡ solvedNumber (returned (refusal (tablesOf n (now (kinds .entry)) (now (numbers .entry)) (now (zs .entry)) m (now (pkinds .entry)) (now (lefts .entry)) (now (pzs .entry)) (now (rights .entry)) q (now (qlefts .entry)) (now (qzs .entry)) (now (qrights .entry))) (room (memoryOf (now (representatives .entry)) (now (offsets .entry)) (now (marks .entry)) (now (pairs .entry)) (now (answers .entry))))) (tablesOf n (now (kinds .entry)) (now (numbers .entry)) (now (zs .entry)) m (now (pkinds .entry)) (now (lefts .entry)) (now (pzs .entry)) (now (rights .entry)) q (now (qlefts .entry)) (now (qzs .entry)) (now (qrights .entry)))) ⌝ }
-    ensures { λ r. ⌜ memoryOf (now (representatives .exit)) (now (offsets .exit)) (now (marks .exit)) (now (pairs .exit)) (now (answers .exit)) ≡ left (refusal (tablesOf n (now (kinds .entry)) (now (numbers .entry)) (now (zs .entry)) m (now (pkinds .entry)) (now (lefts .entry)) (now (pzs .entry)) (now (rights .entry)) q (now (qlefts .entry)) (now (qzs .entry)) (now (qrights .entry))) (room (memoryOf (now (representatives .entry)) (now (offsets .entry)) (now (marks .entry)) (now (pairs .entry)) (now (answers .entry))))) (tablesOf n (now (kinds .entry)) (now (numbers .entry)) (now (zs .entry)) m (now (pkinds .entry)) (now (lefts .entry)) (now (pzs .entry)) (now (rights .entry)) q (now (qlefts .entry)) (now (qzs .entry)) (now (qrights .entry))) (memoryOf (now (representatives .entry)) (now (offsets .entry)) (now (marks .entry)) (now (pairs .entry)) (now (answers .entry))) ⌝ }
+    ensures { λ r.
+        let T = tablesOf n (before terms) m (before propositions) q (before questions) in
+        let M = memoryOf (before representatives) (before offsets) (before marks) (before pairs) (before answers) in
+        ⌜ r ≡ solvedNumber (returned (callFault T M) T) ⌝ }
+    ensures { λ _.
+        let T = tablesOf n (before terms) m (before propositions) q (before questions) in
+        let M = memoryOf (before representatives) (before offsets) (before marks) (before pairs) (before answers) in
+        let N = memoryOf (after representatives) (after offsets) (after marks) (after pairs) (after answers) in
+        ⌜ N ≡ left (callFault T M) T M ⌝ }
 {
     solved_number(solve(
         n,
-        kinds,
-        numbers,
-        zs,
+        terms,
         m,
-        pkinds,
-        lefts,
-        pzs,
-        rights,
+        propositions,
         q,
-        qlefts,
-        qzs,
-        qrights,
+        questions,
         representatives,
         offsets,
         marks,
@@ -90,18 +90,13 @@ pub extern "C" fn bucketmonk_solve(
 #[no_mangle]
 pub extern "C" fn bucketmonk_verdict(
     n: usize,
-    kinds: &[u8],
-    numbers: &[u32],
-    zs: &[i32],
+    terms: &[TermRow],
     m: usize,
-    pkinds: &[u8],
-    lefts: &[u32],
-    pzs: &[i32],
-    rights: &[u32],
+    propositions: &[PropositionRow],
 ) -> usize
-    ensures { λ r. ⌜ r ≡ solvedNumber (verdictOf (setOf n (now (kinds .entry)) (now (numbers .entry)) (now (zs .entry)) m (now (pkinds .entry)) (now (lefts .entry)) (now (pzs .entry)) (now (rights .entry)))) ⌝ }
+    ensures { λ r. ⌜ r ≡ solvedNumber (verdictOf (unasked n (before terms) m (before propositions))) ⌝ }
 {
-    let found = verdict(n, kinds, numbers, zs, m, pkinds, lefts, pzs, rights);
+    let found = verdict(n, terms, m, propositions);
     solved_number(found)
 }
 
@@ -110,13 +105,15 @@ fn read_number(r: ReadResult) -> usize
     ensures { λ k. ⌜ k ≡ readNumber r ⌝ }
 {
     match r {
-        ReadResult::Accepted {
-            terms,
-            propositions,
-            questions,
-        } => 4294967296 * (terms % 65536) + 65536 * (propositions % 65536) + questions % 65536,
-        ReadResult::Refused { refusal, frame } => {
-            281474976710656 * number_of(refusal) + frame % 281474976710656
+        ReadResult::Accepted(counts) => {
+            let terms = counts.terms % 65536;
+            let propositions = counts.propositions % 65536;
+            let questions = counts.questions % 65536;
+            4294967296 * terms + 65536 * propositions + questions
+        }
+        ReadResult::Refused(fault) => {
+            let refusal = fault.refusal;
+            281474976710656 * number_of(refusal) + fault.place % 281474976710656
         }
     }
 }
@@ -125,52 +122,16 @@ fn read_number(r: ReadResult) -> usize
 #[no_mangle]
 pub extern "C" fn bucketmonk_read(
     text: &[u8],
-    term_kinds: &mut [u8],
-    term_numbers: &mut [u32],
-    term_offsets: &mut [i32],
-    proposition_kinds: &mut [u8],
-    proposition_lefts: &mut [u32],
-    proposition_offsets: &mut [i32],
-    proposition_rights: &mut [u32],
-    question_lefts: &mut [u32],
-    question_offsets: &mut [i32],
-    question_rights: &mut [u32],
+    terms: &mut [TermRow],
+    propositions: &mut [PropositionRow],
+    questions: &mut [QuestionRow],
 ) -> usize
-    ensures { λ r. ⌜ ReadAsNumber (now (text .entry)) (columns
-        (now («term_kinds» .entry))
-        (now («term_numbers» .entry))
-        (now («term_offsets» .entry))
-        (now («proposition_kinds» .entry))
-        (now («proposition_lefts» .entry))
-        (now («proposition_offsets» .entry))
-        (now («proposition_rights» .entry))
-        (now («question_lefts» .entry))
-        (now («question_offsets» .entry))
-        (now («question_rights» .entry))) r (columns
-        (now («term_kinds» .exit))
-        (now («term_numbers» .exit))
-        (now («term_offsets» .exit))
-        (now («proposition_kinds» .exit))
-        (now («proposition_lefts» .exit))
-        (now («proposition_offsets» .exit))
-        (now («proposition_rights» .exit))
-        (now («question_lefts» .exit))
-        (now («question_offsets» .exit))
-        (now («question_rights» .exit))) ⌝ }
+    ensures { λ r.
+        let C = rows (before terms) (before propositions) (before questions) in
+        let D = rows (after terms) (after propositions) (after questions) in
+        ⌜ ReadAsNumber (before text) C r D ⌝ }
 {
-    let found = read(
-        text,
-        term_kinds,
-        term_numbers,
-        term_offsets,
-        proposition_kinds,
-        proposition_lefts,
-        proposition_offsets,
-        proposition_rights,
-        question_lefts,
-        question_offsets,
-        question_rights,
-    );
+    let found = read(text, terms, propositions, questions);
     read_number(found)
 }
 
@@ -183,7 +144,9 @@ pub extern "C" fn bucketmonk_faulty_line(
     questions: usize,
     start: &mut usize,
 ) -> usize
-    ensures { λ r. ⌜ (r ≡ faultyPart (now (text .entry)) terms propositions questions .size) × (now (start .exit) ≡ faultyPart (now (text .entry)) terms propositions questions .start) ⌝ }
+    ensures { λ r.
+        let part = faultyPart (before text) terms propositions questions in
+        ⌜ (r ≡ part .size) × (after start ≡ part .start) ⌝ }
 {
     let part = faulty_part(text, terms, propositions, questions);
     *start = part.start;
@@ -193,8 +156,8 @@ pub extern "C" fn bucketmonk_faulty_line(
 // What the program writes for a text, in a buffer.
 #[no_mangle]
 pub extern "C" fn bucketmonk_output(text: &[u8], out: &mut [u8]) -> usize
-    ensures { λ r. ⌜ r ≡ length (written (now (text .entry)) (length (now (out .entry)))) ⌝ }
-    ensures { λ _. ⌜ now (out .exit) ≡ overwrite (written (now (text .entry)) (length (now (out .entry)))) (now (out .entry)) ⌝ }
+    ensures { λ r. ⌜ r ≡ length (outputWithin (before text) (length (before out))) ⌝ }
+    ensures { λ _. ⌜ after out ≡ overwrite (outputWithin (before text) (length (before out))) (before out) ⌝ }
 {
     write_output(text, out)
 }

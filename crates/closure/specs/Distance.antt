@@ -11,7 +11,8 @@ use lib.ListN.{length}
 use Rattle.rules.specs.Terms.{Term, Given, WellFormed}
 use Rattle.rules.specs.Rules.{Equal}
 use Rattle.rules.specs.Soundness.{equal-holds}
-use Rattle.labels.specs.Spread.{Within, Spread, spread-bound}
+use Rattle.integers.specs.Within.{Within}
+use Rattle.labels.specs.Spread.{Spread, spread-bound}
 use Rattle.labels.specs.Steps.{Bounded}
 use Rattle.closure.specs.Facts.{Facts, Lists}
 use Rattle.closure.specs.Join.{placed, own-spread, join-spread}

@@ -1,5 +1,4 @@
--- The rows of a set in columns, and the verdict on its kept propositions.
-pub mod Filling
-pub mod Joining
-pub mod Live
-pub mod Deciding
+-- The labels of the union-find, and joins of dereferences of one address: what each keeps, and how they end.
+pub mod Labels
+pub mod Closing
+pub mod Settling

@@ -1,106 +1,260 @@
-// The verdict on the kept propositions of a set in columns: its rows are made, and the crate `consistency` judges these.
+// Congruence closure: dereferences of one address are joined until all agree. Each join is tested where it is made; the last look shows
+// that none is left. Where to look first is noted in `uselists`.
 
-use offsets::widened;
-use tables::PropositionRow;
+use lastlook::Look;
+use lastlook::unequal_pair;
+use offsets::is_same;
+use offsets::sum;
 use tables::TermRow;
-use tables::proposition_row;
-use tables::term_row;
-use types::PropositionRecord;
+use tables::term_at;
+use types::DEREF;
+use types::MOST;
+use types::TermNumber;
 use types::TermRecord;
-ghost use mathlib.Core.Path.{_≡_};
-ghost use Prim.Native.Nat.{_≤_};
+use types::index;
+use unionfind::Joining;
+use unionfind::Root;
+use unionfind::find;
+use unionfind::flatten;
+use unionfind::join;
+use uselists::add_use;
+use uselists::first_slot;
+use uselists::join_uses;
+use uselists::pop;
+use uselists::set_slot;
+use uselists::slot;
+ghost use Prim.Native.Nat.{_<_};
 ghost use lib.ListN.{length};
 ghost use Rattle.lists.specs.Lent.{before, after};
-ghost use Rattle.tables.specs.Rows.{termOfRow, propositionOfRow};
-ghost use Rattle.tables.specs.Call.{setOf};
-ghost use Rattle.tables.specs.Accepted.{Good};
-ghost use Rattle.congruence.specs.Filling.{Filled, termIn, propositionIn};
-ghost use Rattle.congruence.specs.Deciding.{Decided};
+ghost use Rattle.integers.specs.Within.{Within};
+ghost use Rattle.tables.specs.Limits.{offsetLimit};
+ghost use Rattle.tables.specs.Rows.{termAt};
+ghost use Rattle.tables.specs.TermTable.{AcceptedTerms};
+ghost use Rattle.congruence.specs.Labels.{Labels, Unchanged};
+ghost use Rattle.congruence.specs.Closing.{Addressed, Reads, Meeting, Chased, Closing};
 
-// A byte in 64 bits.
-fn byte(x: u8) -> u64
-    ensures { λ r. ⌜ r ≡ x ⌝ }
-{
-    x as u64
+// What a test of two dereferences found: nothing to do, two classes that were joined, or one class at two offsets.
+pub(crate) enum Met {
+    Nothing,
+    Joined,
+    Clashed,
 }
 
-// A number in 64 bits.
-fn word(x: u32) -> u64
-    ensures { λ r. ⌜ r ≡ x ⌝ }
+// The class and the address that a dereference reads.
+fn address(parents: &mut [u32], offs: &mut [i64], r: TermRecord) -> Root
+    requires { ⌜ Labels (length (now parents)) (now parents) (now offs) × ((r .number < length (now parents)) × Within offsetLimit (r .offset)) ⌝ }
+    ensures { λ at. ⌜ Addressed (before parents) (before offs) (after parents) (after offs) r at ⌝ }
 {
-    x as u64
-}
-
-// The rows of n terms.
-fn term_rows(n: usize, kinds: &[u8], numbers: &[u32], zs: &[i32], rows: &mut [TermRow])
-    requires { ⌜ (n ≤ length (now kinds)) × ((n ≤ length (now numbers)) × ((n ≤ length (now zs)) × (n ≤ length (now rows)))) ⌝ }
-    ensures { λ _. ⌜ Filled termOfRow (termIn (before kinds) (before numbers) (before zs)) n (before rows) (after rows) ⌝ }
-{
-    for t in 0..n {
-        let z = widened(zs[t]);
-        rows[t] = term_row(TermRecord {
-            kind: byte(kinds[t]),
-            number: word(numbers[t]),
-            offset: z,
-        });
+    let inner = find(parents, offs, TermNumber(index(r.number)));
+    let class = inner.term;
+    let offset = sum(r.offset, inner.offset);
+    Root {
+        term: class,
+        offset,
     }
 }
 
-// The rows of m propositions.
-fn proposition_rows(
-    m: usize,
-    kinds: &[u8],
-    lefts: &[u32],
-    zs: &[i32],
-    rights: &[u32],
-    rows: &mut [PropositionRow],
-)
-    requires { ⌜ (m ≤ length (now kinds)) × ((m ≤ length (now lefts)) × ((m ≤ length (now zs)) × ((m ≤ length (now rights)) × (m ≤ length (now rows))))) ⌝ }
-    ensures { λ _. ⌜ Filled propositionOfRow (propositionIn (before kinds) (before lefts) (before zs) (before rights)) m (before rows) (after rows) ⌝ }
+// Whether y is a dereference that reads this address.
+fn reads(terms: &[TermRow], parents: &mut [u32], offs: &mut [i64], y: TermNumber, at: Root) -> bool
+    requires { ⌜ AcceptedTerms (length (now terms)) (termAt (now terms)) × (Labels (length (now terms)) (now parents) (now offs) × (y .0 < length (now terms))) ⌝ }
+    ensures { λ r. ⌜ Reads (termAt (before terms)) (before parents) (before offs) (after parents) (after offs) (y .0) at r ⌝ }
 {
-    for p in 0..m {
-        rows[p] = proposition_row(PropositionRecord {
-            kind: byte(kinds[p]),
-            left: word(lefts[p]),
-            offset: widened(zs[p]),
-            right: word(rights[p]),
-        });
+    let r = term_at(terms, y);
+    if r.kind != DEREF {
+        return false;
     }
+    let other = address(parents, offs, r);
+    if at.term.0 != other.term.0 {
+        return false;
+    }
+    is_same(at.offset, other.offset)
 }
 
-// Whether the propositions that are marked are consistent. If they are, the labels of the n terms are the closure's; else what is left
-// in them is not told. The partners are not used.
-// Public for the crate `solver`.
-pub fn is_consistent(
-    n: usize,
-    kinds: &[u8],
-    numbers: &[u32],
-    zs: &[i32],
-    m: usize,
-    pkinds: &[u8],
-    lefts: &[u32],
-    pzs: &[i32],
-    rights: &[u32],
-    marks: &[u8],
-    reps: &mut [u32],
+// Joins x and y, if they are dereferences of one address in two classes.
+fn meet(
+    terms: &[TermRow],
+    parents: &mut [u32],
     offs: &mut [i64],
-    partners: &mut [u32],
-) -> bool
-    requires { ⌜ Good (setOf n (now kinds) (now numbers) (now zs) m (now pkinds) (now lefts) (now pzs) (now rights)) ⌝ }
-    requires { ⌜ (m ≤ length (now marks)) × ((n ≤ length (now reps)) × ((n ≤ length (now offs)) × (n ≤ length (now partners)))) ⌝ }
-    ensures { λ r.
-        let T = setOf n (before kinds) (before numbers) (before zs) m (before pkinds) (before lefts) (before pzs) (before rights) in
-        ⌜ Decided T (before marks) (after reps) (after offs) r ⌝ }
+    x: TermNumber,
+    y: TermNumber,
+) -> Met
+    requires { ⌜ AcceptedTerms (length (now terms)) (termAt (now terms)) × Labels (length (now terms)) (now parents) (now offs) ⌝ }
+    requires { ⌜ (x .0 < length (now terms)) × (y .0 < length (now terms)) ⌝ }
+    ensures { λ r. ⌜ Meeting (length (before terms)) (termAt (before terms)) (before parents) (before offs) (after parents) (after offs) (x .0) (y .0) r ⌝ }
 {
-    let mut terms = [[0u64; 3]; 512];
-    let mut propositions = [[0u64; 4]; 512];
-    term_rows(n, kinds, numbers, zs, &mut terms);
-    proposition_rows(m, pkinds, lefts, pzs, rights, &mut propositions);
-    consistency::is_consistent(
-        &terms[..n],
-        &propositions[..m],
-        marks,
-        &mut reps[..n],
-        &mut offs[..n],
-    )
+    let r = term_at(terms, x);
+    if r.kind != DEREF {
+        return Met::Nothing;
+    }
+    let at = address(parents, offs, r);
+    if !reads(terms, parents, offs, y, at) {
+        return Met::Nothing;
+    }
+    match join(parents, offs, x, 0, y) {
+        Joining::Joined => Met::Joined,
+        Joining::Held => Met::Nothing,
+        Joining::Clashed => Met::Clashed,
+    }
+}
+
+// One more than a dereference in the table that reads this address; 0 if none is found, and then x is put there.
+fn lookup(
+    terms: &[TermRow],
+    parents: &mut [u32],
+    offs: &mut [i64],
+    notes: &mut [u16],
+    start: usize,
+    x: TermNumber,
+    at: Root,
+) -> usize
+    requires { ⌜ AcceptedTerms (length (now terms)) (termAt (now terms)) × Labels (length (now terms)) (now parents) (now offs) ⌝ }
+    ensures { λ _. ⌜ Unchanged (before parents) (before offs) (after parents) (after offs) ⌝ }
+{
+    for i in 0..512usize {
+        let s = start % 4096 + i;
+        let found = slot(notes, s);
+        if found == 0 {
+            set_slot(notes, s, x.0);
+            return 0;
+        }
+        let y = found - 1;
+        if terms.len() <= y {
+            return 0;
+        }
+        if reads(terms, parents, offs, TermNumber(y), at) {
+            return found;
+        }
+    }
+    0
+}
+
+// Joins x and y, if they are dereferences of one address in two classes, and their uses; tells whether they do not clash.
+fn merge(
+    terms: &[TermRow],
+    parents: &mut [u32],
+    offs: &mut [i64],
+    notes: &mut [u16],
+    shifts: &mut [u64],
+    x: TermNumber,
+    y: TermNumber,
+) -> bool
+    requires { ⌜ AcceptedTerms (length (now terms)) (termAt (now terms)) × Labels (length (now terms)) (now parents) (now offs) ⌝ }
+    requires { ⌜ (x .0 < length (now terms)) × (y .0 < length (now terms)) ⌝ }
+    ensures { λ r. ⌜ Chased (length (before terms)) (termAt (before terms)) (before parents) (before offs) (after parents) (after offs) r ⌝ }
+{
+    let a = find(parents, offs, x);
+    let b = find(parents, offs, y);
+    match meet(terms, parents, offs, x, y) {
+        Met::Nothing => true,
+        Met::Joined => {
+            join_uses(notes, shifts, a, b);
+            true
+        }
+        Met::Clashed => false,
+    }
+}
+
+// Looks x up, and joins it with what is found there; tells whether they do not clash.
+fn step(
+    terms: &[TermRow],
+    parents: &mut [u32],
+    offs: &mut [i64],
+    notes: &mut [u16],
+    shifts: &mut [u64],
+    x: TermNumber,
+) -> bool
+    requires { ⌜ AcceptedTerms (length (now terms)) (termAt (now terms)) × (Labels (length (now terms)) (now parents) (now offs) × (x .0 < length (now terms))) ⌝ }
+    ensures { λ r. ⌜ Chased (length (before terms)) (termAt (before terms)) (before parents) (before offs) (after parents) (after offs) r ⌝ }
+{
+    let r = term_at(terms, x);
+    if r.kind != DEREF {
+        return true;
+    }
+    let at = address(parents, offs, r);
+    let start = first_slot(notes, shifts, at);
+    let found = lookup(terms, parents, offs, notes, start, x, at);
+    if found == 0 {
+        return true;
+    }
+    let y = found - 1;
+    if terms.len() <= y {
+        return true;
+    }
+    merge(terms, parents, offs, notes, shifts, x, TermNumber(y))
+}
+
+// Lists the dereferences over each class, and puts all on the stack, the lowest on top.
+fn list_uses(terms: &[TermRow], parents: &mut [u32], offs: &mut [i64], notes: &mut [u16])
+    requires { ⌜ AcceptedTerms (length (now terms)) (termAt (now terms)) × Labels (length (now terms)) (now parents) (now offs) ⌝ }
+    ensures { λ _. ⌜ Unchanged (before parents) (before offs) (after parents) (after offs) ⌝ }
+{
+    for k in 0..terms.len() {
+        let x = terms.len() - 1 - k;
+        let r = term_at(terms, TermNumber(x));
+        if r.kind != DEREF {
+            continue;
+        }
+        let inner = find(parents, offs, TermNumber(index(r.number)));
+        add_use(notes, inner.term.0, x);
+    }
+}
+
+// Looks at the dereferences on the stack until it is empty, or two clash, or 8,192 were looked at.
+fn chase(
+    terms: &[TermRow],
+    parents: &mut [u32],
+    offs: &mut [i64],
+    notes: &mut [u16],
+    shifts: &mut [u64],
+) -> bool
+    requires { ⌜ AcceptedTerms (length (now terms)) (termAt (now terms)) × Labels (length (now terms)) (now parents) (now offs) ⌝ }
+    ensures { λ r. ⌜ Chased (length (before terms)) (termAt (before terms)) (before parents) (before offs) (after parents) (after offs) r ⌝ }
+{
+    for _ in 0..8192usize {
+        let top = pop(notes);
+        if top == 0 {
+            return true;
+        }
+        let x = top - 1;
+        if terms.len() <= x {
+            return true;
+        }
+        if !step(terms, parents, offs, notes, shifts, TermNumber(x)) {
+            return false;
+        }
+    }
+    true
+}
+
+// Joins what the last look finds until it finds nothing; or two of one class that differ.
+fn settle(terms: &[TermRow], parents: &mut [u32], offs: &mut [i64]) -> bool
+    requires { ⌜ AcceptedTerms (length (now terms)) (termAt (now terms)) × Labels (length (now terms)) (now parents) (now offs) ⌝ }
+    ensures { λ r. ⌜ Closing (length (before terms)) (termAt (before terms)) (before parents) (before offs) (after parents) (after offs) r ⌝ }
+{
+    loop {
+        flatten(parents, offs);
+        match unequal_pair(terms, parents, offs) {
+            Look::Closed => return true,
+            Look::Pair(x, y) => match join(parents, offs, x, 0, y) {
+                Joining::Joined => continue,
+                Joining::Held => return false,
+                Joining::Clashed => return false,
+            },
+        }
+    }
+}
+
+// Joins dereferences of one address until all agree, and leaves the labels in the columns; or finds two of one class that differ.
+// Public for the crate `consistency`.
+pub fn close(terms: &[TermRow], parents: &mut [u32], offs: &mut [i64]) -> bool
+    requires { ⌜ AcceptedTerms (length (now terms)) (termAt (now terms)) × Labels (length (now terms)) (now parents) (now offs) ⌝ }
+    ensures { λ r. ⌜ Closing (length (before terms)) (termAt (before terms)) (before parents) (before offs) (after parents) (after offs) r ⌝ }
+{
+    let mut notes = [0u16; 8192];
+    let mut shifts = [0u64; MOST];
+    list_uses(terms, parents, offs, &mut notes);
+    if !chase(terms, parents, offs, &mut notes, &mut shifts) {
+        return false;
+    }
+    settle(terms, parents, offs)
 }

@@ -17,7 +17,8 @@ use Rattle.rules.specs.Assignments.{Placement, Holds}
 use Rattle.rules.specs.Monotone.{well-formed-less}
 use Rattle.labels.specs.Labelling.{equal-conflict}
 use Rattle.labels.specs.Relabel.{same-or-not}
-use Rattle.labels.specs.Spread.{Within, Spread}
+use Rattle.integers.specs.Within.{Within}
+use Rattle.labels.specs.Spread.{Spread}
 use Rattle.labels.specs.Steps.{State, Step, by-equality, by-congruence, reversed, Bounded, joined-state, joined-spread, Fresh, fresh-state, fresh-spread}
 use Rattle.labels.specs.Joins.{Linked, Joined, down, rise, joined-keeps, joined-holds}
 use Rattle.outcome.specs.BlameMinimal.{some-of}
@@ -29,8 +30,8 @@ use Rattle.tables.specs.Sets.{Set, AcceptedSet, termsIn, propositionsIn}
 use Rattle.unionfind.specs.declared.Joining.{Joining}
 use Rattle.unionfind.specs.Forest.{Links, flat, Equated, joined, held, clashed}
 use Rattle.lastlook.specs.Addresses.{SameAddress}
-use Rattle.consistency.specs.Labels.{Labels}
-use Rattle.consistency.specs.Closing.{Chain, start, more}
+use Rattle.congruence.specs.Labels.{Labels}
+use Rattle.congruence.specs.Closing.{Chain, start, more}
 
 -- proposition k is kept
 abbrev pub isKept : List ℕ → ℕ → Bool

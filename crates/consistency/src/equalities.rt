@@ -5,6 +5,7 @@ use tables::proposition_at;
 use types::EQUALITY;
 use types::PropositionNumber;
 use types::TermNumber;
+use types::index;
 use unionfind::Joining;
 use unionfind::join;
 ghost use mathlib.Core.Path.{_≡_};
@@ -14,13 +15,6 @@ ghost use Rattle.lists.specs.Lent.{before, after};
 ghost use Rattle.tables.specs.Sets.{setOf, AcceptedSet};
 ghost use Rattle.unionfind.specs.Forest.{flat};
 ghost use Rattle.consistency.specs.Live.{Live, Advanced, Equalities};
-
-// A number of a record as an index.
-pub(crate) fn index(number: u64) -> usize
-    ensures { λ r. ⌜ r ≡ number ⌝ }
-{
-    number as usize
-}
 
 // Joins proposition p, if it is a kept equality; tells whether the labels agree with it.
 fn join_equality(

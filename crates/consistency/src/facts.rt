@@ -1,5 +1,4 @@
 // The kept facts that labels can contradict: disequalities, block disequalities, and variables in one class.
-use crate::equalities::index;
 use offsets::is_same;
 use offsets::sum;
 use tables::PropositionRow;
@@ -8,21 +7,25 @@ use tables::proposition_at;
 use tables::term_at;
 use types::BLOCK_DISEQUALITY;
 use types::DISEQUALITY;
+use types::MOST;
 use types::PropositionNumber;
 use types::TermNumber;
 use types::VARIABLE;
+use types::index;
 ghost use mathlib.Core.Path.{_≡_};
 ghost use Prim.Native.Nat.{ℕ, _≤_, _<_};
 ghost use lib.ListN.{length, getD};
 ghost use Rattle.lists.specs.Lent.{before, after};
-ghost use Rattle.labels.specs.Spread.{Within, far};
+ghost use Rattle.integers.specs.Within.{Within};
+ghost use Rattle.labels.specs.Spread.{far};
 ghost use Rattle.labels.specs.View.{view};
 ghost use Rattle.closure.specs.Facts.{comparison};
 ghost use Rattle.closure.specs.Verdict.{holds as labelsHold};
+ghost use Rattle.tables.specs.Limits.{most};
 ghost use Rattle.tables.specs.Rows.{termAt, propositionAt};
 ghost use Rattle.tables.specs.PropositionTable.{AcceptedPropositions};
 ghost use Rattle.unionfind.specs.Forest.{Near};
-ghost use Rattle.consistency.specs.Labels.{Columns};
+ghost use Rattle.congruence.specs.Labels.{Columns};
 ghost use Rattle.consistency.specs.Deciding.{Judged, Refuted, Meets};
 
 // Whether the labels say a = z + b.
@@ -94,11 +97,11 @@ fn wide(x: u32) -> usize
 
 // Whether two variables are in one class: `seen` is 1 for a class with a variable in it, else 0.
 pub(crate) fn variables_meet(terms: &[TermRow], reps: &[u32]) -> bool
-    requires { ⌜ (length (now terms) ≤ 512) × (length (now reps) ≡ length (now terms)) ⌝ }
+    requires { ⌜ (length (now terms) ≤ most) × (length (now reps) ≡ length (now terms)) ⌝ }
     requires { ⌜ ((t : ℕ) → t < length (now reps) → getD (now reps) t 0 < length (now reps)) ⌝ }
     ensures { λ r. ⌜ Meets (length (before terms)) (termAt (before terms)) (before reps) r ⌝ }
 {
-    let mut seen = [0u32; 512];
+    let mut seen = [0u32; MOST];
     for t in 0..terms.len() {
         let r = term_at(terms, TermNumber(t));
         if r.kind != VARIABLE {

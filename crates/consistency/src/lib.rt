@@ -1,11 +1,9 @@
 // The verdict on the kept propositions of a set, by congruence closure: a union-find with offsets, joined along the kept equalities
 // and then wherever two dereferences read one address.
-mod closing;
 mod equalities;
 mod facts;
-mod uses;
 
-use closing::close;
+use congruence::close;
 use equalities::join_equalities;
 use facts::any_refuted;
 use facts::variables_meet;
@@ -19,15 +17,8 @@ ghost use Rattle.lists.specs.Lent.{before, after};
 ghost use Rattle.tables.specs.Sets.{setOf, AcceptedSet};
 ghost use Rattle.consistency.specs.Deciding.{Decided};
 
-// What a test of two dereferences found: nothing to do, two classes that were joined, or one class at two offsets.
-pub enum Met {
-    Nothing,
-    Joined,
-    Clashed,
-}
-
 // Whether the propositions that are marked are consistent. If they are, the labels are the closure's; else what is left in them is not
-// told. Public for the crates `solving` and `congruence`.
+// told. Public for the crate `solver`.
 pub fn is_consistent(
     terms: &[TermRow],
     propositions: &[PropositionRow],

@@ -1,5 +1,5 @@
 -- The base differences of an accepted set, read off its columns and its labelling.
-use Prim.Native.Nat.{ℕ, _+_, _*_, _^_, _<_, _≤_}
+use Prim.Native.Nat.{ℕ, _+_, _*_, _<_, _≤_}
 use mathlib.Core.Path.{_≡_, refl, sym, _∙_, ap}
 use mathlib.Core.Logic.{_≢_, _⊎_, inl, inr, ⊎-elim}
 use mathlib.Core.Bool.{Bool, true, false, _||_}
@@ -9,35 +9,36 @@ use lib.Dec.{eqb}
 use lib.IntN.{ℤ, pos, negℤ, _+ℤ_, _-ℤ_}
 use lib.ListN.{length, getD}
 use borrow.Author.Tests.{eqb-true, eq-eqb, not-true}
+use Rattle.labels.specs.Spread.{far}
 use Rattle.integers.specs.Linear.{linear, value, ‹_›, #_, _⊕_, _⊖_}
 use Rattle.integers.specs.Compare.{eqℤ-true, eqℤ-false, ne-eqℤ}
 use Rattle.lists.specs.Items.{Item, In}
 use Rattle.lists.specs.Search.{any-true, any-in}
-use Rattle.rules.specs.Terms.{Term, variable, disequality, block-disequality, Comparison, Given, DistinctVariables, listed, WellFormed}
+use Rattle.rules.specs.Terms.{Term, variable, block-disequality, Comparison, Given, DistinctVariables, listed, WellFormed}
 use Rattle.rules.specs.Rules.{Equal, Apart}
 use Rattle.rules.specs.Assignments.{Placement}
 use Rattle.rules.specs.Soundness.{equal-holds}
 use Rattle.labels.specs.Labelling.{class-equal}
 use Rattle.labels.specs.Unique.{Canonical}
 use Rattle.labels.specs.View.{view}
-use Rattle.labels.specs.Spread.{Within}
+use Rattle.integers.specs.Within.{Within}
 use Rattle.closure.specs.Facts.{Facts, facts, lists, comparison, pair}
 use Rattle.closure.specs.Closure.{and-true}
 use Rattle.closure.specs.Differences.{apart, moved, movedTo, otherOffset, classesOf, differentBase, or-cases, or-first, or-second, apart-true, true-apart}
 use Rattle.tables.specs.Records.{variableKind, disequalityKind, blockDisequalityKind}
-use Rattle.tables.specs.Call.{Tables, termRecord, propositionRecord, termsOf, propositionsOf}
-use Rattle.tables.specs.Accepted.{Good, accepted-well-formed, length-terms, sides-listed}
+use Rattle.differences.specs.ColumnTables.{ColumnTables, columnTerm, columnProposition, columnTerms, columnPropositions}
+use Rattle.differences.specs.Accepted.{Good, accepted-well-formed, length-terms, sides-listed}
 use Rattle.differences.specs.Marks.{Adds, One, Both, Upto, bit-cases, adds-then, adds-as}
 use Rattle.differences.specs.Columns.{kind-variable, kind-disequality, kind-block, variable-kind, disequality-kind, block-kind, variables-distinct}
 use Rattle.pairbits.specs.Bits.{isSet}
 
 -- an accepted set and the labelling that the rules determine for it, in columns that are long enough
-pub record Ready (T : Tables) (reps : List ℕ) (offs : List ℤ) : Type 0 where
+pub record Ready (T : ColumnTables) (reps : List ℕ) (offs : List ℤ) : Type 0 where
   pub good : Good T
-  pub canonical : Canonical (termsOf T) (listed (termsOf T) (propositionsOf T)) (view reps offs)
+  pub canonical : Canonical (columnTerms T) (listed (columnTerms T) (columnPropositions T)) (view reps offs)
   pub reps-long : T .terms ≤ length reps
   pub offs-long : T .terms ≤ length offs
-  pub within : (t : ℕ) → t < T .terms → Within (2 ^ 41) (getD offs t (pos 0))
+  pub within : (t : ℕ) → t < T .terms → Within far (getD offs t (pos 0))
 
 -- the sides of proposition k
 abbrev pub sides : List ℕ → List ℤ → List ℕ → ℕ → Comparison
@@ -146,23 +147,23 @@ module _ (P : Placement) (c : Comparison) (o : otherOffset P (c .left) (c .offse
       let r = one-class y x e in
       parts-other P x (pos 0) y (sym (r .0)) (λ s. r .1 (omega (linear, s, value (# 0 ⊕ ‹ P .position y ›))))
 
-module _ (T : Tables) (reps : List ℕ) (offs : List ℤ) (R : Ready T reps offs) where
+module _ (T : ColumnTables) (reps : List ℕ) (offs : List ℤ) (R : Ready T reps offs) where
   abbrev ts : List Term
-  ts = termsOf T
+  ts = columnTerms T
 
   abbrev G : Given
-  G = listed (termsOf T) (propositionsOf T)
+  G = listed (columnTerms T) (columnPropositions T)
 
   abbrev F : Facts
-  F = facts (termsOf T) (propositionsOf T)
+  F = facts (columnTerms T) (columnPropositions T)
 
   abbrev P : Placement
   P = view reps offs
 
-  abbrev C : Canonical (termsOf T) (listed (termsOf T) (propositionsOf T)) (view reps offs)
+  abbrev C : Canonical (columnTerms T) (listed (columnTerms T) (columnPropositions T)) (view reps offs)
   C = R .canonical
 
-  pub ready-formed : WellFormed (termsOf T) (listed (termsOf T) (propositionsOf T))
+  pub ready-formed : WellFormed (columnTerms T) (listed (columnTerms T) (columnPropositions T))
   ready-formed = accepted-well-formed T (R .good)
 
   -- representatives are terms, and their own
@@ -178,7 +179,7 @@ module _ (T : Tables) (reps : List ℕ) (offs : List ℤ) (R : Ready T reps offs
   same-class : {t1 t2 : ℕ} {z : ℤ} → Equal ts G t1 z t2 → getD reps t1 0 ≡ getD reps t2 0
   same-class e = equal-holds ts G P (C .respects) e .same-block
 
-  block-in : (t1 t2 : ℕ) → In (block-disequality t1 t2) (propositionsOf T) → ApartReps (getD reps t1 0) (getD reps t2 0)
+  block-in : (t1 t2 : ℕ) → In (block-disequality t1 t2) (columnPropositions T) → ApartReps (getD reps t1 0) (getD reps t2 0)
   block-in t1 t2 i =
       let r = block-kind T (R .good) (i .0) t1 t2 (i .1) in
       inl (i .0, r .0, (r .1, inl (sym (ap (λ (t : ℕ). getD reps t 0) (r .2)), sym (ap (λ (t : ℕ). getD reps t 0) (r .3)))))
@@ -212,39 +213,39 @@ module _ (T : Tables) (reps : List ℕ) (offs : List ℤ) (R : Ready T reps offs
   in-apart : (x y : ℕ) → x < T .terms → y < T .terms → ApartReps (getD reps x 0) (getD reps y 0) → Apart ts G x y
   in-apart x y hx hy (inl (k, h, (e, inl o))) =
       let n = sides-listed T (R .good) k h in
-      moved-apart (propositionRecord T k .left) (propositionRecord T k .right) x y (Apart.given (inl (k, kind-block T (R .good) k h e))) (n .0) (n .1) hx hy (o .0) (o .1)
+      moved-apart (columnProposition T k .left) (columnProposition T k .right) x y (Apart.given (inl (k, kind-block T (R .good) k h e))) (n .0) (n .1) hx hy (o .0) (o .1)
   in-apart x y hx hy (inl (k, h, (e, inr o))) =
       let n = sides-listed T (R .good) k h in
-      moved-apart (propositionRecord T k .right) (propositionRecord T k .left) x y (Apart.symmetry (Apart.given (inl (k, kind-block T (R .good) k h e)))) (n .1) (n .0) hx hy (o .0) (o .1)
+      moved-apart (columnProposition T k .right) (columnProposition T k .left) x y (Apart.symmetry (Apart.given (inl (k, kind-block T (R .good) k h e)))) (n .1) (n .0) hx hy (o .0) (o .1)
   in-apart x y hx hy (inr (i, hi, (j, hj, (ei, (ej, (m, o)))))) =
       let d = variables-distinct T (R .good) i j hi hj m ei ej in
       moved-apart i j x y
-      (Apart.given (inr (termRecord T i .number, termRecord T j .number, kind-variable T (R .good) i hi ei, kind-variable T (R .good) j hj ej, d)))
+      (Apart.given (inr (columnTerm T i .number, columnTerm T j .number, kind-variable T (R .good) i hi ei, kind-variable T (R .good) j hj ej, d)))
       hi hj hx hy (o .0) (o .1)
 
   -- a listed disequality that is moved to t1 against z + t2
   pub moved-listed :
       (t1 : ℕ) (z : ℤ) (t2 : ℕ) →
       moved P (F .unequal) t1 z t2 ≡ true →
-      (k : ℕ) × (k < T .propositions) × (propositionRecord T k .kind ≡ disequalityKind)
+      (k : ℕ) × (k < T .propositions) × (columnProposition T k .kind ≡ disequalityKind)
       × ((movedTo P (sides (T .propositionLefts) (T .propositionOffsets) (T .propositionRights) k) t1 z t2 || movedTo P (sides (T .propositionLefts) (T .propositionOffsets) (T .propositionRights) k) t2 (negℤ z) t1) ≡ true)
   unfolding moved
   moved-listed t1 z t2 e =
       let r = any-true (λ c. movedTo P c t1 z t2 || movedTo P c t2 (negℤ z) t1) (F .unequal) e in
-      let i = lists (termsOf T) (propositionsOf T) .in-unequal (r .1) in
+      let i = lists (columnTerms T) (columnPropositions T) .in-unequal (r .1) in
       let q = disequality-kind T (R .good) (i .0) (r .0 .left) (r .0 .offset) (r .0 .right) (i .1) in
       (i .0, q .0, q .1, rw (q .2, q .3, q .4) (r .2))
 
   pub listed-moved :
       (t1 : ℕ) (z : ℤ) (t2 k : ℕ) →
       k < T .propositions →
-      propositionRecord T k .kind ≡ disequalityKind →
+      columnProposition T k .kind ≡ disequalityKind →
       (movedTo P (sides (T .propositionLefts) (T .propositionOffsets) (T .propositionRights) k) t1 z t2 || movedTo P (sides (T .propositionLefts) (T .propositionOffsets) (T .propositionRights) k) t2 (negℤ z) t1) ≡ true →
       moved P (F .unequal) t1 z t2 ≡ true
   unfolding moved
   listed-moved t1 z t2 k h d e =
       any-in (λ c. movedTo P c t1 z t2 || movedTo P c t2 (negℤ z) t1) (F .unequal) (sides (T .propositionLefts) (T .propositionOffsets) (T .propositionRights) k)
-      (lists (termsOf T) (propositionsOf T) .unequal-in (k, kind-disequality T (R .good) k h d)) e
+      (lists (columnTerms T) (columnPropositions T) .unequal-in (k, kind-disequality T (R .good) k h d)) e
 
   pub moved-base : (x : ℕ) (z : ℤ) (y : ℕ) → moved P (F .unequal) x z y ≡ true → differentBase P F x z y ≡ true
   unfolding differentBase
@@ -255,14 +256,14 @@ module _ (T : Tables) (reps : List ℕ) (offs : List ℤ) (R : Ready T reps offs
     pub table-apart : (x y : ℕ) → x < T .terms → y < T .terms → isSet table (getD reps x 0 * T .terms + getD reps y 0) ≡ true → apart P (F .apart) x y ≡ true
     table-apart x y hx hy e =
         ⊎-elim (λ s. absurd (clear (getD reps x 0 * T .terms + getD reps y 0) s))
-        (λ (d : ApartReps (getD reps x 0) (getD reps y 0)). true-apart ts G ready-formed F (lists (termsOf T) (propositionsOf T)) P C (in-apart x y hx hy d))
+        (λ (d : ApartReps (getD reps x 0) (getD reps y 0)). true-apart ts G ready-formed F (lists (columnTerms T) (columnPropositions T)) P C (in-apart x y hx hy d))
         (bit-cases (T .terms) ApartReps A (getD reps x 0) (getD reps y 0) (rep-below y hy) e)
 
     pub apart-table : (x y : ℕ) → x < T .terms → y < T .terms → apart P (F .apart) x y ≡ true → isSet table (getD reps x 0 * T .terms + getD reps y 0) ≡ true
     apart-table x y hx hy e =
         let size = length-terms T in
         A .added (getD reps x 0) (getD reps y 0) (rep-below x hx) (rep-below y hy)
-        (apart-in (apart-true ts G ready-formed F (lists (termsOf T) (propositionsOf T)) P C x y (omega arith) (omega arith) e))
+        (apart-in (apart-true ts G ready-formed F (lists (columnTerms T) (columnPropositions T)) P C x y (omega arith) (omega arith) e))
 
     -- the base differences are those by the classes and the listed disequalities, moved along equalities
     pub base-ways : (x : ℕ) (z : ℤ) (y : ℕ) → x < T .terms → y < T .terms → differentBase P F x z y ≡ true → (classesDiffer (T .terms) table P x z y ≡ true) ⊎ (moved P (F .unequal) x z y ≡ true)
@@ -309,28 +310,10 @@ module _ (T : Tables) (reps : List ℕ) (offs : List ℤ) (R : Ready T reps offs
             judge :
                 (k : ℕ) →
                 k < T .propositions →
-                propositionRecord T k .kind ≡ disequalityKind →
+                columnProposition T k .kind ≡ disequalityKind →
                 Moved P (sides (T .propositionLefts) (T .propositionOffsets) (T .propositionRights) k) x y →
                 (o : Bool) →
                 otherOffset P (getD (T .propositionLefts) k 0) (getD (T .propositionOffsets) k (pos 0)) (getD (T .propositionRights) k 0) ≡ o →
                 (classesDiffer (T .terms) table P x (pos 0) y ≡ true) ⊎ Upto (T .propositions) (UnequalPair (T .propositionKinds) (T .propositionLefts) (T .propositionOffsets) (T .propositionRights) P) x y
             judge k h d m true o = inl (or-second (isSet table (getD reps x 0 * T .terms + getD reps y 0)) (otherOffset P x (pos 0) y) (within-class P (sides (T .propositionLefts) (T .propositionOffsets) (T .propositionRights) k) o x y m))
             judge k h d m false o = inr (k, h, (d, (o, m)))
-
--- `new` is `old` with the bits of the base differences set, by way of a table of apart classes made from `start`
-pub record BaseMarked
-    (n : ℕ)
-    (kinds : List ℕ)
-    (m : ℕ)
-    (pkinds lefts : List ℕ)
-    (zs : List ℤ)
-    (rights reps : List ℕ)
-    (offs : List ℤ)
-    (start old new : List ℕ)
-    : Type 0
-  where
-    pub table : List ℕ
-    pub middle : List ℕ
-    pub apart : Adds n (ApartClasses n kinds m pkinds lefts rights reps) start table
-    pub classes : Adds n (λ x y. classesDiffer n table (view reps offs) x (pos 0) y ≡ true) old middle
-    pub moved : Adds n (Upto m (UnequalPair pkinds lefts zs rights (view reps offs))) middle new

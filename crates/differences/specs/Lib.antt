@@ -1,10 +1,9 @@
--- The mathematics of the pair table and the answers.
+-- The mathematics of the pair table.
+pub mod ColumnTables
+pub mod Accepted
 pub mod Table
 pub mod Marks
 pub mod Columns
 pub mod Base
 pub mod Settle
-pub mod Bounds
 pub mod Ranges
-pub mod Answers
-pub mod Same

@@ -1,12 +1,13 @@
 -- Columns that are long enough, and terms that they hold.
-use Prim.Native.Nat.{ℕ, _*_, _^_, _<_, _≤_}
+use Prim.Native.Nat.{ℕ, _*_, _<_, _≤_}
 use mathlib.Core.Path.{_≡_}
 use mathlib.Core.List.{List}
 use native.Mathlib.Omega.{arith}
 use native.Mathlib.Nat.{mul-le-mul-right, mul-le-mul-left}
 use lib.IntN.{ℤ, pos}
 use lib.ListN.{length, getD}
-use Rattle.labels.specs.Spread.{Within}
+use Rattle.labels.specs.Spread.{far}
+use Rattle.integers.specs.Within.{Within}
 use Rattle.tables.specs.Limits.{most}
 use Rattle.tables.specs.Records.{derefKind}
 
@@ -25,7 +26,7 @@ mirror h = record { few = h .few; left = h .right; right = h .left }
 -- the offset of term t is there, and not too far out
 pub record Offset (offs : List ℤ) (t : ℕ) : Type 0 where
   pub there : t < length offs
-  pub within : Within (2 ^ 41) (getD offs t (pos 0))
+  pub within : Within far (getD offs t (pos 0))
 
 -- the labels of term t are there
 pub record Placed (reps : List ℕ) (offs : List ℤ) (t : ℕ) : Type 0 where
@@ -56,7 +57,7 @@ pub record Sided (n m : ℕ) (kinds lefts rights : List ℕ) : Type 0 where
 pub record Against (reps : List ℕ) (offs : List ℤ) (t1 : ℕ) (z : ℤ) (t2 : ℕ) : Type 0 where
   pub left : Placed reps offs t1
   pub right : Placed reps offs t2
-  pub near : Within (2 ^ 41) z
+  pub near : Within far z
 
 -- proposition k's sides are there, and placed
 pub record SidesPlaced (lefts : List ℕ) (zs : List ℤ) (rights reps : List ℕ) (offs : List ℤ) (k : ℕ) : Type 0 where
@@ -93,6 +94,3 @@ pub record Dereferences (n : ℕ) (kinds numbers : List ℕ) (zs : List ℤ) : T
   pub numbers-long : n ≤ length numbers
   pub offsets-long : n ≤ length zs
   pub earlier : (x : ℕ) → x < n → getD kinds x 0 ≡ derefKind → getD numbers x 0 < x
-
-pub square-small : (n : ℕ) → n ≤ most → n * n ≤ most * most
-square-small n few = let p = mul-le-mul-right n few in let q = mul-le-mul-left most few in omega arith

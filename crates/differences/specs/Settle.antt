@@ -11,6 +11,8 @@ use lib.Dec.{eqb, ltb}
 use lib.IntN.{ℤ, pos}
 use lib.ListN.{length, getD, drop, replicate, length-replicate, getD-replicate, List·getD-eq-default}
 use borrow.Author.Tests.{eqb-true, eqb-false, ltb-true, ltb-false}
+use Rattle.lists.specs.Booleans.{same-truth}
+use Rattle.lists.specs.Overwrite.{overwrite}
 use Rattle.integers.specs.Linear.{linear, value, ‹_›, #_, _⊖_}
 use Rattle.rules.specs.Terms.{listed}
 use Rattle.labels.specs.View.{view}
@@ -19,14 +21,14 @@ use Rattle.closure.specs.Differences.{different, differentBase}
 use Rattle.outcome.specs.PairBits.{pairBits, pairBytes, pair-bit}
 use Rattle.tables.specs.Limits.{most}
 use Rattle.tables.specs.Records.{derefKind}
-use Rattle.tables.specs.Call.{Tables, termRecord, termsOf, propositionsOf, overwrite}
-use Rattle.tables.specs.Accepted.{length-terms, sides-listed, inner-earlier}
 use Rattle.pairbits.specs.Bits.{isSet, isSet-value, length-pairBits, isSet-same, isSet-zero, Bytes, bytes-over, Agree, table-told, front-at, rest-at, length-over}
-use Rattle.differences.specs.Table.{Over, Settled, settled-exact, same-truth}
+use Rattle.differences.specs.ColumnTables.{ColumnTables, columnTerm, columnTerms, columnPropositions}
+use Rattle.differences.specs.Accepted.{length-terms, sides-listed, inner-earlier}
+use Rattle.differences.specs.Table.{Over, Settled, settled-exact}
 use Rattle.differences.specs.Marks.{Adds, Room, Upto, adds-none, adds-then, bit-cases, bit-kept, past-kept}
 use Rattle.differences.specs.Ranges.{Dereferences, Labelled, Sided}
 use Rattle.differences.specs.Columns.{kind-deref, deref-kind}
-use Rattle.differences.specs.Base.{Ready, ready-formed, rep-below, BaseMarked, base-adds}
+use Rattle.differences.specs.Base.{Ready, ready-formed, rep-below, ApartClasses, classesDiffer, UnequalPair, base-adds}
 
 -- the dereferences x and y have one offset, and u and v stand inside
 pub record Inverts (kinds numbers : List ℕ) (zs : List ℤ) (x y u v : ℕ) : Type 0 where
@@ -176,14 +178,18 @@ no-bits size k e =
     go true e = getD-replicate size (k / 8) 0 0 (ltb-true (k / 8) size e)
     go false e = List·getD-eq-default (zeros size) 0 (past size (ltb-false (k / 8) size e))
 
--- term i is different from 0 + term j, and the table of that
-abbrev pub differs : Tables → List ℕ → List ℤ → ℕ → ℕ → Bool
-differs T reps offs i j = different (termsOf T) (facts (termsOf T) (propositionsOf T)) (view reps offs) i (pos 0) j
+-- the table of apart classes, made from nothing
+abbrev pub ApartTable : ColumnTables → List ℕ → List ℕ → Type 0
+ApartTable T reps table = Adds (T .terms) (ApartClasses (T .terms) (T .termKinds) (T .propositions) (T .propositionKinds) (T .propositionLefts) (T .propositionRights) reps) (zeros 32768) table
 
-abbrev pub pairTable : Tables → List ℕ → List ℤ → List ℕ
+-- term i is different from 0 + term j, and the table of that
+abbrev pub differs : ColumnTables → List ℕ → List ℤ → ℕ → ℕ → Bool
+differs T reps offs i j = different (columnTerms T) (facts (columnTerms T) (columnPropositions T)) (view reps offs) i (pos 0) j
+
+abbrev pub pairTable : ColumnTables → List ℕ → List ℤ → List ℕ
 pairTable T reps offs = pairBits (differs T reps offs) (T .terms)
 
-module _ (T : Tables) (reps : List ℕ) (offs : List ℤ) (R : Ready T reps offs) where
+module _ (T : ColumnTables) (reps : List ℕ) (offs : List ℤ) (R : Ready T reps offs) where
   pub ready-labelled : Labelled (T .terms) reps offs
   ready-labelled = record {
     classes = record { few = R .good .few-terms; long = R .reps-long; below = rep-below T reps offs R };
@@ -213,90 +219,100 @@ module _ (T : Tables) (reps : List ℕ) (offs : List ℤ) (R : Ready T reps offs
   }
 
   abbrev Base : ℕ → ℕ → Type 0
-  Base i j = differentBase (view reps offs) (facts (termsOf T) (propositionsOf T)) i (pos 0) j ≡ true
+  Base i j = differentBase (view reps offs) (facts (columnTerms T) (columnPropositions T)) i (pos 0) j ≡ true
 
   abbrev Inner : List ℕ → ℕ → ℕ → Type 0
   Inner = InverseFrom 0 (T .terms) (T .termKinds) (T .termNumbers) (T .termOffsets)
 
-  module _ {old start base new : List ℕ} (room : pairBytes (T .terms) ≤ length old) (c : Cleared (pairBytes (T .terms)) old start) (m : BaseMarked (T .terms) (T .termKinds) (T .propositions) (T .propositionKinds) (T .propositionLefts) (T .propositionOffsets) (T .propositionRights) reps offs (zeros 32768) start base) (b : Adds (T .terms) (Inner new) base new) where
-    abbrev a : Adds (T .terms) Base start base
-    a = base-adds T reps offs R (zeros 32768) (m .table) (no-bits 32768) (m .apart) (m .classes) (m .moved)
+  -- the table is cleared, and the bits by classes, by listed disequalities and by inverse dereferencing are set
+  module _
+      {old start middle base new : List ℕ}
+      (table : List ℕ)
+      (apart : ApartTable T reps table)
+      (room : pairBytes (T .terms) ≤ length old)
+      (c : Cleared (pairBytes (T .terms)) old start)
+      (classes : Adds (T .terms) (λ x y. classesDiffer (T .terms) table (view reps offs) x (pos 0) y ≡ true) start middle)
+      (moved : Adds (T .terms) (Upto (T .propositions) (UnequalPair (T .propositionKinds) (T .propositionLefts) (T .propositionOffsets) (T .propositionRights) (view reps offs))) middle base)
+      (b : Adds (T .terms) (Inner new) base new)
+    where
+      abbrev a : Adds (T .terms) Base start base
+      a = base-adds T reps offs R (zeros 32768) table (no-bits 32768) apart classes moved
 
-    abbrev bit : ℕ → ℕ → Bool
-    bit i j = isSet new (i * T .terms + j)
+      abbrev bit : ℕ → ℕ → Bool
+      bit i j = isSet new (i * T .terms + j)
 
-    inside : (k : ℕ) → k < length (termsOf T) → k < T .terms
-    inside k h = omega (arith, length-terms T)
+      inside : (k : ℕ) → k < length (columnTerms T) → k < T .terms
+      inside k h = omega (arith, length-terms T)
 
-    settled : Settled (termsOf T) (listed (termsOf T) (propositionsOf T)) (ready-formed T reps offs R) (facts (termsOf T) (propositionsOf T)) (lists (termsOf T) (propositionsOf T)) (view reps offs) (R .canonical) bit
-    settled = record {
-      base = λ i j hi hj e. b .kept (i * T .terms + j) (a .added i j (inside i hi) (inside j hj) e);
-      inverse = λ i j x y o e.
-          let dx = deref-kind T (R .good) x (o .z1) i (o .left) in
-          let dy = deref-kind T (R .good) y (o .z2) j (o .right) in
-          let zx = dx .3 in
-          let zy = dy .3 in
-          b .added i j
-          (omega (arith, ready-formed T reps offs R .earlier (o .left), dx .0))
-          (omega (arith, ready-formed T reps offs R .earlier (o .right), dy .0)) (
-            x,
-            omega arith,
-            dx .0,
-            y,
-            dy .0,
-            record {
-              left = dx .1;
-              right = dy .1;
-              offset = omega (linear, zx, zy, o .offset, value (# 0), value (‹ o .z2 › ⊖ ‹ o .z1 ›));
-              inner-left = sym (dx .2);
-              inner-right = sym (dy .2);
-            },
-            e,
-          );
-      only = λ i j hi hj e.
-          ⊎-elim (λ f. inl (⊎-elim (λ g. cleared-bit i j (inside i hi) (inside j hj) g) (λ d. d) (bit-cases (T .terms) Base a i j (inside j hj) f)))
-          (λ (r : Inner new i j). inr (r .0, r .3, over i j r, r .6))
-          (bit-cases (T .terms) (Inner new) b i j (inside j hj) e);
-    }
-      where
-        cleared-bit : {A : Type 0} (i j : ℕ) → i < T .terms → j < T .terms → isSet start (i * T .terms + j) ≡ true → A
-        cleared-bit i j hi hj e =
-            let h : i * T .terms + j < T .terms * T .terms = digits-lt hi hj in
-            let f = c .clear (i * T .terms + j) (omega arith) in
-            let z : _≡_ {A = ℕ} 0 1 = cc in
-            absurd (omega arith)
+      settled : Settled (columnTerms T) (listed (columnTerms T) (columnPropositions T)) (ready-formed T reps offs R) (facts (columnTerms T) (columnPropositions T)) (lists (columnTerms T) (columnPropositions T)) (view reps offs) (R .canonical) bit
+      settled = record {
+        base = λ i j hi hj e. b .kept (i * T .terms + j) (a .added i j (inside i hi) (inside j hj) e);
+        inverse = λ i j x y o e.
+            let dx = deref-kind T (R .good) x (o .z1) i (o .left) in
+            let dy = deref-kind T (R .good) y (o .z2) j (o .right) in
+            let zx = dx .3 in
+            let zy = dy .3 in
+            b .added i j
+            (omega (arith, ready-formed T reps offs R .earlier (o .left), dx .0))
+            (omega (arith, ready-formed T reps offs R .earlier (o .right), dy .0)) (
+              x,
+              omega arith,
+              dx .0,
+              y,
+              dy .0,
+              record {
+                left = dx .1;
+                right = dy .1;
+                offset = omega (linear, zx, zy, o .offset, value (# 0), value (‹ o .z2 › ⊖ ‹ o .z1 ›));
+                inner-left = sym (dx .2);
+                inner-right = sym (dy .2);
+              },
+              e,
+            );
+        only = λ i j hi hj e.
+            ⊎-elim (λ f. inl (⊎-elim (λ g. cleared-bit i j (inside i hi) (inside j hj) g) (λ d. d) (bit-cases (T .terms) Base a i j (inside j hj) f)))
+            (λ (r : Inner new i j). inr (r .0, r .3, over i j r, r .6))
+            (bit-cases (T .terms) (Inner new) b i j (inside j hj) e);
+      }
+        where
+          cleared-bit : {A : Type 0} (i j : ℕ) → i < T .terms → j < T .terms → isSet start (i * T .terms + j) ≡ true → A
+          cleared-bit i j hi hj e =
+              let h : i * T .terms + j < T .terms * T .terms = digits-lt hi hj in
+              let f = c .clear (i * T .terms + j) (omega arith) in
+              let z : _≡_ {A = ℕ} 0 1 = cc in
+              absurd (omega arith)
 
-        over : (i j : ℕ) (r : Inner new i j) → Over (termsOf T) i (pos 0) j (r .0) (r .3)
-        over i j r = record {
-          z1 = termRecord T (r .0) .offset;
-          z2 = termRecord T (r .3) .offset;
-          left = rw (r .5 .inner-left) (kind-deref T (R .good) (r .0) (r .2) (r .5 .left));
-          right = rw (r .5 .inner-right) (kind-deref T (R .good) (r .3) (r .4) (r .5 .right));
-          offset = omega (linear, r .5 .offset, value (# 0), value (‹ termRecord T (r .3) .offset › ⊖ ‹ termRecord T (r .0) .offset ›));
-        }
+          over : (i j : ℕ) (r : Inner new i j) → Over (columnTerms T) i (pos 0) j (r .0) (r .3)
+          over i j r = record {
+            z1 = columnTerm T (r .0) .offset;
+            z2 = columnTerm T (r .3) .offset;
+            left = rw (r .5 .inner-left) (kind-deref T (R .good) (r .0) (r .2) (r .5 .left));
+            right = rw (r .5 .inner-right) (kind-deref T (R .good) (r .3) (r .4) (r .5 .right));
+            offset = omega (linear, r .5 .offset, value (# 0), value (‹ columnTerm T (r .3) .offset › ⊖ ‹ columnTerm T (r .0) .offset ›));
+          }
 
-    agree : Agree (differs T reps offs) (T .terms) new
-    agree = record {
-      pair = λ i j hi hj.
-          settled-exact (termsOf T) (listed (termsOf T) (propositionsOf T)) (ready-formed T reps offs R) (facts (termsOf T) (propositionsOf T)) (lists (termsOf T) (propositionsOf T)) (view reps offs) (R .canonical) bit settled i j
-          (omega (arith, length-terms T))
-          (omega (arith, length-terms T));
-      unused = λ k h l. not-set k (isSet new k) refl h l;
-    }
-      where
-        not-set : (k : ℕ) (t : Bool) → isSet new k ≡ t → T .terms * T .terms ≤ k → k / 8 < pairBytes (T .terms) → t ≡ false
-        not-set k false e h l = refl
-        not-set k true e h l = sym (past-kept (T .terms) Base a k h (past-kept (T .terms) (Inner new) b k h e)) ∙ c .clear k l
+      agree : Agree (differs T reps offs) (T .terms) new
+      agree = record {
+        pair = λ i j hi hj.
+            settled-exact (columnTerms T) (listed (columnTerms T) (columnPropositions T)) (ready-formed T reps offs R) (facts (columnTerms T) (columnPropositions T)) (lists (columnTerms T) (columnPropositions T)) (view reps offs) (R .canonical) bit settled i j
+            (omega (arith, length-terms T))
+            (omega (arith, length-terms T));
+        unused = λ k h l. not-set k (isSet new k) refl h l;
+      }
+        where
+          not-set : (k : ℕ) (t : Bool) → isSet new k ≡ t → T .terms * T .terms ≤ k → k / 8 < pairBytes (T .terms) → t ≡ false
+          not-set k false e h l = refl
+          not-set k true e h l = sym (past-kept (T .terms) Base a k h (past-kept (T .terms) (Inner new) b k h e)) ∙ c .clear k l
 
-    pub pair-table : Bytes old → new ≡ overwrite (pairTable T reps offs) old
-    pair-table h =
-        table-told (differs T reps offs) (T .terms) new old (b .bytes (a .bytes (c .bytes h))) h (b .long ∙ a .long ∙ c .long) room agree
-        (λ k l.
-        let outside : T .terms * T .terms ≤ k = omega arith in
-        same-truth (isSet new k) (isSet start k)
-        (λ e. past-kept (T .terms) Base a k outside (past-kept (T .terms) (Inner new) b k outside e))
-        (λ e. b .kept k (a .kept k e))
-        ∙ c .rest k l)
+      pub pair-table : Bytes old → new ≡ overwrite (pairTable T reps offs) old
+      pair-table h =
+          table-told (differs T reps offs) (T .terms) new old (b .bytes (a .bytes (c .bytes h))) h (b .long ∙ a .long ∙ c .long) room agree
+          (λ k l.
+          let outside : T .terms * T .terms ≤ k = omega arith in
+          same-truth (isSet new k) (isSet start k)
+          (λ e. past-kept (T .terms) Base a k outside (past-kept (T .terms) (Inner new) b k outside e))
+          (λ e. b .kept k (a .kept k e))
+          ∙ c .rest k l)
 
 -- the bits of a table that the pair table was written to
 pub table-bit : (f : ℕ → ℕ → Bool) (n : ℕ) (old : List ℕ) (i j : ℕ) → i < n → j < n → isSet (overwrite (pairBits f n) old) (i * n + j) ≡ f i j

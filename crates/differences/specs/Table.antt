@@ -1,13 +1,14 @@
 -- What inverse dereferencing makes of the base differences: the equation that `different` meets, and that a table is `different` if
 -- it meets the same equation. A dereference has a higher number than the term inside, so the equation has one solution.
 use Prim.Native.Nat.{ℕ, zero, suc, _+_, _<_, _≤_}
-use mathlib.Core.Path.{_≡_, refl, sym}
+use mathlib.Core.Path.{_≡_}
 use mathlib.Core.Logic.{_⊎_, inl, inr, ⊎-elim}
-use mathlib.Core.Bool.{Bool, true, false}
+use mathlib.Core.Bool.{Bool, true}
 use mathlib.Core.List.{List}
 use native.Mathlib.Omega.{arith}
 use lib.IntN.{ℤ, pos, _-ℤ_}
 use lib.ListN.{length}
+use Rattle.lists.specs.Booleans.{same-truth}
 use Rattle.lists.specs.Items.{Item, item-below}
 use Rattle.rules.specs.Terms.{Term, deref, Given, WellFormed}
 use Rattle.rules.specs.Rules.{Different}
@@ -16,12 +17,6 @@ use Rattle.labels.specs.Unique.{Canonical}
 use Rattle.closure.specs.Facts.{Facts, Lists}
 use Rattle.closure.specs.Closure.{derefs, in-derefs}
 use Rattle.closure.specs.Differences.{different, differentBase, differentIn, different-exact, different-cases, by-base, shown-different}
-
--- two tests that hold together are equal
-pub same-truth : (a b : Bool) → (a ≡ true → b ≡ true) → (b ≡ true → a ≡ true) → a ≡ b
-same-truth true b f g = sym (f refl)
-same-truth false true f g = g refl
-same-truth false false f g = refl
 
 -- the listed dereferences x of z1 + t1 and y of z2 + t2, with z = z2 − z1
 pub record Over (ts : List Term) (t1 : ℕ) (z : ℤ) (t2 x y : ℕ) : Type 0 where

@@ -9,6 +9,7 @@ use types::TermNumber;
 ghost use mathlib.Core.Path.{_≡_};
 ghost use Prim.Native.Nat.{_<_, _≤_};
 ghost use lib.ListN.{length, getD};
+ghost use Rattle.lists.specs.Lent.{before, after};
 ghost use Rattle.tables.specs.Records.{variableKind};
 ghost use Rattle.differences.specs.Marks.{Adds, Room, Upto};
 ghost use Rattle.differences.specs.Ranges.{Classes, Sided};
@@ -26,7 +27,7 @@ fn mark_blocks(
 )
     requires { ⌜ Classes n (now reps) × (Sided n m (now kinds) (now lefts) (now rights) × Room n (now table)) ⌝ }
     ensures { λ _.
-        ⌜ Adds n (Upto m (BlockPair (now (kinds .entry)) (now (lefts .entry)) (now (rights .entry)) (now (reps .entry)))) (now (table .entry)) (now (table .exit)) ⌝ }
+        ⌜ Adds n (Upto m (BlockPair (before kinds) (before lefts) (before rights) (before reps))) (before table) (after table) ⌝ }
 {
     for k in 0..m {
         if !is_kind(kinds, k, BLOCK_DISEQUALITY) {
@@ -43,7 +44,7 @@ fn mark_blocks(
 // The class of variable i with those of the other variables: two listed variables are distinct.
 fn mark_variable(n: usize, i: TermNumber, kinds: &[u8], reps: &[u32], table: &mut [u8])
     requires { ⌜ Classes n (now reps) × ((n ≤ length (now kinds)) × ((i .0 < n) × ((getD (now kinds) (i .0) 0 ≡ variableKind) × Room n (now table)))) ⌝ }
-    ensures { λ _. ⌜ Adds n (Upto n (VariablePair (now (kinds .entry)) (now (reps .entry)) (i .0))) (now (table .entry)) (now (table .exit)) ⌝ }
+    ensures { λ _. ⌜ Adds n (Upto n (VariablePair (before kinds) (before reps) (i .0))) (before table) (after table) ⌝ }
 {
     let at = i.0;
     let a = term_at(reps, at);
@@ -62,7 +63,7 @@ fn mark_variable(n: usize, i: TermNumber, kinds: &[u8], reps: &[u32], table: &mu
 // The classes of variables.
 fn mark_variables(n: usize, kinds: &[u8], reps: &[u32], table: &mut [u8])
     requires { ⌜ Classes n (now reps) × ((n ≤ length (now kinds)) × Room n (now table)) ⌝ }
-    ensures { λ _. ⌜ Adds n (Upto n (λ i. Upto n (VariablePair (now (kinds .entry)) (now (reps .entry)) i))) (now (table .entry)) (now (table .exit)) ⌝ }
+    ensures { λ _. ⌜ Adds n (Upto n (λ i. Upto n (VariablePair (before kinds) (before reps) i))) (before table) (after table) ⌝ }
 {
     for i in 0..n {
         if !is_kind(kinds, i, VARIABLE) {
@@ -72,7 +73,7 @@ fn mark_variables(n: usize, kinds: &[u8], reps: &[u32], table: &mut [u8])
     }
 }
 
-// Both.
+// Both. Public for the crate `columns`.
 pub fn apart_classes(
     n: usize,
     term_kinds: &[u8],
@@ -86,7 +87,7 @@ pub fn apart_classes(
     requires { ⌜ Classes n (now reps) × ((n ≤ length (now «term_kinds»)) × (Sided n m (now kinds) (now lefts) (now rights) × Room n (now table))) ⌝ }
     ensures { λ _.
         ⌜
-        Adds n (ApartClasses n (now («term_kinds» .entry)) m (now (kinds .entry)) (now (lefts .entry)) (now (rights .entry)) (now (reps .entry))) (now (table .entry)) (now (table .exit))
+        Adds n (ApartClasses n (before «term_kinds») m (before kinds) (before lefts) (before rights) (before reps)) (before table) (after table)
         ⌝ }
 {
     mark_blocks(n, m, kinds, lefts, rights, reps, table);

@@ -16,6 +16,7 @@ ghost use mathlib.Core.Bool.{true};
 ghost use Prim.Native.Nat.{_<_, _≤_};
 ghost use lib.IntN.{pos};
 ghost use lib.ListN.{length};
+ghost use Rattle.lists.specs.Lent.{before, after};
 ghost use Rattle.labels.specs.View.{view};
 ghost use Rattle.differences.specs.Marks.{Adds, Room, Upto};
 ghost use Rattle.differences.specs.Ranges.{Labelled, Sided, SidesPlaced};
@@ -32,7 +33,7 @@ fn mark_classes_of(
 )
     requires { ⌜ Labelled n (now reps) (now offs) × ((i .0 < n) × (Room n (now apart) × Room n (now pairs))) ⌝ }
     ensures { λ _.
-        ⌜ Adds n (Upto n (ClassPair n (now (apart .entry)) (view (now (reps .entry)) (now (offs .entry))) (i .0))) (now (pairs .entry)) (now (pairs .exit)) ⌝ }
+        ⌜ Adds n (Upto n (ClassPair n (before apart) (view (before reps) (before offs)) (i .0))) (before pairs) (after pairs) ⌝ }
 {
     for j in 0..n {
         if !classes_differ(n, i, 0, TermNumber(j), reps, offs, apart) {
@@ -47,7 +48,7 @@ pub fn mark_classes(n: usize, reps: &[u32], offs: &[i64], apart: &[u8], pairs: &
     requires { ⌜ Labelled n (now reps) (now offs) × (Room n (now apart) × Room n (now pairs)) ⌝ }
     ensures { λ _.
         ⌜
-        Adds n (λ x y. classesDiffer n (now (apart .entry)) (view (now (reps .entry)) (now (offs .entry))) x (pos 0) y ≡ true) (now (pairs .entry)) (now (pairs .exit))
+        Adds n (λ x y. classesDiffer n (before apart) (view (before reps) (before offs)) x (pos 0) y ≡ true) (before pairs) (after pairs)
         ⌝ }
 {
     for i in 0..n {
@@ -71,9 +72,9 @@ fn mark_moved_of(
     ensures { λ _.
         ⌜
         Adds n
-        (Upto n (MovedPair (view (now (reps .entry)) (now (offs .entry))) (sides (now (lefts .entry)) (now (zs .entry)) (now (rights .entry)) (k .0)) (i .0)))
-        (now (pairs .entry))
-        (now (pairs .exit))
+        (Upto n (MovedPair (view (before reps) (before offs)) (sides (before lefts) (before zs) (before rights) (k .0)) (i .0)))
+        (before pairs)
+        (after pairs)
         ⌝ }
 {
     for j in 0..n {
@@ -99,9 +100,9 @@ fn mark_moved(
     ensures { λ _.
         ⌜
         Adds n
-        (Moved (view (now (reps .entry)) (now (offs .entry))) (sides (now (lefts .entry)) (now (zs .entry)) (now (rights .entry)) (k .0)))
-        (now (pairs .entry))
-        (now (pairs .exit))
+        (Moved (view (before reps) (before offs)) (sides (before lefts) (before zs) (before rights) (k .0)))
+        (before pairs)
+        (after pairs)
         ⌝ }
 {
     let left = term_at(lefts, k.0);
@@ -130,9 +131,9 @@ pub fn mark_disequalities(
     ensures { λ _.
         ⌜
         Adds n
-        (Upto m (UnequalPair (now (kinds .entry)) (now (lefts .entry)) (now (zs .entry)) (now (rights .entry)) (view (now (reps .entry)) (now (offs .entry)))))
-        (now (pairs .entry))
-        (now (pairs .exit))
+        (Upto m (UnequalPair (before kinds) (before lefts) (before zs) (before rights) (view (before reps) (before offs))))
+        (before pairs)
+        (after pairs)
         ⌝ }
 {
     for k in 0..m {

@@ -1,8 +1,8 @@
 // The bits of pairs of terms in a byte table: bit i * n + j for the pair (i, j).
 use types::TermNumber;
 ghost use mathlib.Core.Path.{_≡_};
-ghost use Prim.Native.Nat.{_+_, _*_, _<_, _≤_};
-ghost use lib.ListN.{length};
+ghost use Prim.Native.Nat.{_+_, _*_};
+ghost use Rattle.lists.specs.Lent.{before, after};
 ghost use Rattle.pairbits.specs.Bits.{isSet};
 ghost use Rattle.differences.specs.Marks.{Adds, Both, One, Room};
 ghost use Rattle.differences.specs.Ranges.{Inside};
@@ -18,7 +18,7 @@ fn pair_number(n: usize, i: TermNumber, j: TermNumber) -> usize
 // Sets the bit of a pair.
 pub fn set_pair(n: usize, i: TermNumber, j: TermNumber, table: &mut [u8])
     requires { ⌜ Inside n (i .0) (j .0) × Room n (now table) ⌝ }
-    ensures { λ _. ⌜ Adds n (One (i .0) (j .0)) (now (table .entry)) (now (table .exit)) ⌝ }
+    ensures { λ _. ⌜ Adds n (One (i .0) (j .0)) (before table) (after table) ⌝ }
 {
     let k = pair_number(n, i, j);
     pairbits::set_bit(table, k);
@@ -27,7 +27,7 @@ pub fn set_pair(n: usize, i: TermNumber, j: TermNumber, table: &mut [u8])
 // Sets the bits of a pair and of its mirror image.
 pub fn set_both(n: usize, i: TermNumber, j: TermNumber, table: &mut [u8])
     requires { ⌜ Inside n (i .0) (j .0) × Room n (now table) ⌝ }
-    ensures { λ _. ⌜ Adds n (Both (i .0) (j .0)) (now (table .entry)) (now (table .exit)) ⌝ }
+    ensures { λ _. ⌜ Adds n (Both (i .0) (j .0)) (before table) (after table) ⌝ }
 {
     set_pair(n, i, j, table);
     set_pair(n, j, i, table);
@@ -36,7 +36,7 @@ pub fn set_both(n: usize, i: TermNumber, j: TermNumber, table: &mut [u8])
 // Whether the bit of a pair is set.
 pub fn test_pair(n: usize, i: TermNumber, j: TermNumber, table: &[u8]) -> bool
     requires { ⌜ Inside n (i .0) (j .0) × Room n (now table) ⌝ }
-    ensures { λ r. ⌜ r ≡ isSet (now (table .entry)) (i .0 * n + j .0) ⌝ }
+    ensures { λ r. ⌜ r ≡ isSet (before table) (i .0 * n + j .0) ⌝ }
 {
     let k = pair_number(n, i, j);
     pairbits::test_bit(table, k)

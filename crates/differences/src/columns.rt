@@ -1,11 +1,13 @@
 // Cells of the columns: terms by their numbers, offsets widened.
 use types::TermNumber;
 ghost use mathlib.Core.Path.{_≡_};
-ghost use Prim.Native.Nat.{_<_, _^_};
+ghost use Prim.Native.Nat.{_<_};
 ghost use lib.IntN.{pos};
 ghost use lib.Dec.{eqb};
 ghost use lib.ListN.{length, getD};
-ghost use Rattle.labels.specs.Spread.{Within};
+ghost use Rattle.lists.specs.Lent.{before};
+ghost use Rattle.tables.specs.Limits.{offsetLimit};
+ghost use Rattle.integers.specs.Within.{Within};
 
 // The kinds of records.
 pub const VARIABLE: u8 = 0x01;
@@ -25,7 +27,7 @@ fn index(t: u32) -> usize
 // The term that row k of a column names.
 pub fn term_at(column: &[u32], k: usize) -> TermNumber
     requires { ⌜ k < length (now column) ⌝ }
-    ensures { λ r. ⌜ r .0 ≡ getD (now (column .entry)) k 0 ⌝ }
+    ensures { λ r. ⌜ r .0 ≡ getD (before column) k 0 ⌝ }
 {
     TermNumber(index(column[k]))
 }
@@ -33,7 +35,7 @@ pub fn term_at(column: &[u32], k: usize) -> TermNumber
 // The offset in row k of a column of the set.
 pub fn offset_at(column: &[i32], k: usize) -> i64
     requires { ⌜ k < length (now column) ⌝ }
-    ensures { λ r. ⌜ (r ≡ getD (now (column .entry)) k (pos 0)) × Within (2 ^ 31) r ⌝ }
+    ensures { λ r. ⌜ (r ≡ getD (before column) k (pos 0)) × Within offsetLimit r ⌝ }
 {
     offsets::widened(column[k])
 }
@@ -41,7 +43,7 @@ pub fn offset_at(column: &[i32], k: usize) -> i64
 // The offset of a term from its representative.
 pub fn position(offs: &[i64], t: TermNumber) -> i64
     requires { ⌜ t .0 < length (now offs) ⌝ }
-    ensures { λ r. ⌜ r ≡ getD (now (offs .entry)) (t .0) (pos 0) ⌝ }
+    ensures { λ r. ⌜ r ≡ getD (before offs) (t .0) (pos 0) ⌝ }
 {
     let k = t.0;
     offs[k]
@@ -50,7 +52,7 @@ pub fn position(offs: &[i64], t: TermNumber) -> i64
 // Whether row k of a column of kinds holds `kind`.
 pub fn is_kind(kinds: &[u8], k: usize, kind: u8) -> bool
     requires { ⌜ k < length (now kinds) ⌝ }
-    ensures { λ r. ⌜ r ≡ eqb (getD (now (kinds .entry)) k 0) kind ⌝ }
+    ensures { λ r. ⌜ r ≡ eqb (getD (before kinds) k 0) kind ⌝ }
 {
     kinds[k] == kind
 }

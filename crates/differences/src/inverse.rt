@@ -10,6 +10,7 @@ use types::TermNumber;
 ghost use mathlib.Core.Path.{_≡_};
 ghost use Prim.Native.Nat.{_<_};
 ghost use lib.ListN.{getD};
+ghost use Rattle.lists.specs.Lent.{before, after};
 ghost use Rattle.tables.specs.Records.{derefKind};
 ghost use Rattle.differences.specs.Marks.{Adds, Room, Upto};
 ghost use Rattle.differences.specs.Ranges.{Dereferences};
@@ -19,7 +20,7 @@ ghost use Rattle.differences.specs.Settle.{InverseFrom, InversePair};
 fn invert_of(n: usize, x: TermNumber, kinds: &[u8], numbers: &[u32], zs: &[i32], pairs: &mut [u8])
     requires { ⌜ Dereferences n (now kinds) (now numbers) (now zs) × ((x .0 < n) × ((getD (now kinds) (x .0) 0 ≡ derefKind) × Room n (now pairs))) ⌝ }
     ensures { λ _.
-        ⌜ Adds n (Upto n (InversePair n (now (kinds .entry)) (now (numbers .entry)) (now (zs .entry)) (now (pairs .entry)) (x .0))) (now (pairs .entry)) (now (pairs .exit)) ⌝ }
+        ⌜ Adds n (Upto n (InversePair n (before kinds) (before numbers) (before zs) (before pairs) (x .0))) (before pairs) (after pairs) ⌝ }
 {
     let z = offset_at(zs, x.0);
     let u = term_at(numbers, x.0);
@@ -42,7 +43,7 @@ fn invert_of(n: usize, x: TermNumber, kinds: &[u8], numbers: &[u32], zs: &[i32],
 pub fn invert(n: usize, kinds: &[u8], numbers: &[u32], zs: &[i32], pairs: &mut [u8])
     requires { ⌜ Dereferences n (now kinds) (now numbers) (now zs) × Room n (now pairs) ⌝ }
     ensures { λ _.
-        ⌜ Adds n (InverseFrom 0 n (now (kinds .entry)) (now (numbers .entry)) (now (zs .entry)) (now (pairs .exit))) (now (pairs .entry)) (now (pairs .exit)) ⌝ }
+        ⌜ Adds n (InverseFrom 0 n (before kinds) (before numbers) (before zs) (after pairs)) (before pairs) (after pairs) ⌝ }
 {
     let mut x = n;
     while 0 < x {

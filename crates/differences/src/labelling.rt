@@ -9,13 +9,16 @@ use offsets::sum;
 use types::PropositionNumber;
 use types::TermNumber;
 ghost use mathlib.Core.Path.{_≡_};
-ghost use Prim.Native.Nat.{_<_, _^_};
+ghost use Prim.Native.Nat.{_<_, _+_};
 ghost use lib.Dec.{eqb};
 ghost use lib.IntN.{pos, _+ℤ_, _-ℤ_};
 ghost use lib.ListN.{length, getD};
+ghost use Rattle.lists.specs.Lent.{before};
+ghost use Rattle.tables.specs.Limits.{offsetLimit};
+ghost use Rattle.labels.specs.Spread.{far};
 ghost use Rattle.integers.specs.Compare.{eqℤ};
 ghost use Rattle.labels.specs.View.{view};
-ghost use Rattle.labels.specs.Spread.{Within};
+ghost use Rattle.integers.specs.Within.{Within};
 ghost use Rattle.closure.specs.Facts.{comparison};
 ghost use Rattle.closure.specs.Verdict.{holds};
 ghost use Rattle.closure.specs.Differences.{otherOffset, movedTo};
@@ -25,7 +28,7 @@ ghost use Rattle.differences.specs.Base.{classesDiffer, sides};
 
 pub fn same_class(t1: TermNumber, t2: TermNumber, reps: &[u32]) -> bool
     requires { ⌜ (t1 .0 < length (now reps)) × (t2 .0 < length (now reps)) ⌝ }
-    ensures { λ r. ⌜ r ≡ eqb (getD (now (reps .entry)) (t1 .0) 0) (getD (now (reps .entry)) (t2 .0) 0) ⌝ }
+    ensures { λ r. ⌜ r ≡ eqb (getD (before reps) (t1 .0) 0) (getD (before reps) (t2 .0) 0) ⌝ }
 {
     let a = term_at(reps, t1.0);
     let b = term_at(reps, t2.0);
@@ -34,8 +37,8 @@ pub fn same_class(t1: TermNumber, t2: TermNumber, reps: &[u32]) -> bool
 
 // Whether two terms of one class are z apart.
 fn at_offset(t1: TermNumber, z: i64, t2: TermNumber, offs: &[i64]) -> bool
-    requires { ⌜ Offset (now offs) (t1 .0) × (Offset (now offs) (t2 .0) × Within (2 ^ 41) z) ⌝ }
-    ensures { λ r. ⌜ r ≡ eqℤ (getD (now (offs .entry)) (t1 .0) (pos 0)) (z +ℤ getD (now (offs .entry)) (t2 .0) (pos 0)) ⌝ }
+    requires { ⌜ Offset (now offs) (t1 .0) × (Offset (now offs) (t2 .0) × Within far z) ⌝ }
+    ensures { λ r. ⌜ r ≡ eqℤ (getD (before offs) (t1 .0) (pos 0)) (z +ℤ getD (before offs) (t2 .0) (pos 0)) ⌝ }
 {
     let a = position(offs, t1);
     let b = position(offs, t2);
@@ -46,7 +49,7 @@ fn at_offset(t1: TermNumber, z: i64, t2: TermNumber, offs: &[i64]) -> bool
 // Whether t1 equals z + t2.
 pub fn equal_at(t1: TermNumber, z: i64, t2: TermNumber, reps: &[u32], offs: &[i64]) -> bool
     requires { ⌜ Against (now reps) (now offs) (t1 .0) z (t2 .0) ⌝ }
-    ensures { λ r. ⌜ r ≡ holds (view (now (reps .entry)) (now (offs .entry))) (comparison (t1 .0) z (t2 .0)) ⌝ }
+    ensures { λ r. ⌜ r ≡ holds (view (before reps) (before offs)) (comparison (t1 .0) z (t2 .0)) ⌝ }
 {
     if same_class(t1, t2, reps) {
         return at_offset(t1, z, t2, offs);
@@ -57,7 +60,7 @@ pub fn equal_at(t1: TermNumber, z: i64, t2: TermNumber, reps: &[u32], offs: &[i6
 // Whether t1 and t2 are equal at another offset than z.
 pub fn other_offset(t1: TermNumber, z: i64, t2: TermNumber, reps: &[u32], offs: &[i64]) -> bool
     requires { ⌜ Against (now reps) (now offs) (t1 .0) z (t2 .0) ⌝ }
-    ensures { λ r. ⌜ r ≡ otherOffset (view (now (reps .entry)) (now (offs .entry))) (t1 .0) z (t2 .0) ⌝ }
+    ensures { λ r. ⌜ r ≡ otherOffset (view (before reps) (before offs)) (t1 .0) z (t2 .0) ⌝ }
 {
     if same_class(t1, t2, reps) {
         return !at_offset(t1, z, t2, offs);
@@ -75,8 +78,8 @@ pub fn classes_differ(
     offs: &[i64],
     apart: &[u8],
 ) -> bool
-    requires { ⌜ Labelled n (now reps) (now offs) × (Inside n (t1 .0) (t2 .0) × (Within (2 ^ 41) z × Room n (now apart))) ⌝ }
-    ensures { λ r. ⌜ r ≡ classesDiffer n (now (apart .entry)) (view (now (reps .entry)) (now (offs .entry))) (t1 .0) z (t2 .0) ⌝ }
+    requires { ⌜ Labelled n (now reps) (now offs) × (Inside n (t1 .0) (t2 .0) × (Within far z × Room n (now apart))) ⌝ }
+    ensures { λ r. ⌜ r ≡ classesDiffer n (before apart) (view (before reps) (before offs)) (t1 .0) z (t2 .0) ⌝ }
 {
     let a = term_at(reps, t1.0);
     let b = term_at(reps, t2.0);
@@ -89,7 +92,7 @@ pub fn classes_differ(
 // How far t stands above s, in one class.
 fn distance(t: TermNumber, s: TermNumber, offs: &[i64]) -> i64
     requires { ⌜ Offset (now offs) (t .0) × Offset (now offs) (s .0) ⌝ }
-    ensures { λ r. ⌜ r ≡ getD (now (offs .entry)) (t .0) (pos 0) -ℤ getD (now (offs .entry)) (s .0) (pos 0) ⌝ }
+    ensures { λ r. ⌜ r ≡ getD (before offs) (t .0) (pos 0) -ℤ getD (before offs) (s .0) (pos 0) ⌝ }
 {
     let a = position(offs, t);
     let b = position(offs, s);
@@ -98,7 +101,7 @@ fn distance(t: TermNumber, s: TermNumber, offs: &[i64]) -> i64
 
 // The offset z of a disequality, moved by a on its left side and by b on its right.
 fn moved_offset(z: i64, a: i64, b: i64) -> i64
-    requires { ⌜ Within (2 ^ 31) z × (Within (2 ^ 42) a × Within (2 ^ 42) b) ⌝ }
+    requires { ⌜ Within offsetLimit z × (Within (far + far) a × Within (far + far) b) ⌝ }
     ensures { λ r. ⌜ r ≡ z +ℤ a -ℤ b ⌝ }
 {
     let c = sum(z, a);
@@ -119,7 +122,7 @@ pub fn moved_to(
 ) -> bool
     requires { ⌜ SidesPlaced (now lefts) (now zs) (now rights) (now reps) (now offs) (k .0) × Against (now reps) (now offs) (t1 .0) z (t2 .0) ⌝ }
     ensures { λ r.
-        ⌜ r ≡ movedTo (view (now (reps .entry)) (now (offs .entry))) (sides (now (lefts .entry)) (now (zs .entry)) (now (rights .entry)) (k .0)) (t1 .0) z (t2 .0) ⌝ }
+        ⌜ r ≡ movedTo (view (before reps) (before offs)) (sides (before lefts) (before zs) (before rights) (k .0)) (t1 .0) z (t2 .0) ⌝ }
 {
     let left = term_at(lefts, k.0);
     let right = term_at(rights, k.0);

@@ -10,17 +10,11 @@ use lib.IntN.{ℤ, pos, negℤ, _+ℤ_, _-ℤ_}
 use lib.ListN.{length}
 use borrow.Author.Tests.{eqb-true, eqb-false, eq-eqb, ne-eqb}
 use Rattle.integers.specs.Linear.{up, dn, linear, value, ‹_›, #_, _⊕_, _⊖_, ⊝_}
+pub use Rattle.lists.specs.Filled.{same-or-not}
 use Rattle.rules.specs.Terms.{Term, Given}
 use Rattle.rules.specs.Rules.{Equal, E2, E3}
 use Rattle.rules.specs.Assignments.{Placement, Holds}
 use Rattle.labels.specs.Labelling.{Sound, Lowest}
-
-pub same-or-not : (a b : ℕ) → (a ≡ b) ⊎ (a ≢ b)
-same-or-not a b = go (eqb a b) refl
-  where
-    go : (t : Bool) → eqb a b ≡ t → (a ≡ b) ⊎ (a ≢ b)
-    go true e = inl (eqb-true a b e)
-    go false e = inr (eqb-false a b e)
 
 -- Q is P, on the terms below n, with the class of `from` moved to that of `to`, where `from` is d + `to`
 pub record Relabelled (n : ℕ) (P Q : Placement) (from : ℕ) (d : ℤ) (to : ℕ) : Type 0 where

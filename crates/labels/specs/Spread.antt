@@ -9,13 +9,9 @@ use lib.Dec.{eqb}
 use lib.IntN.{ℤ, pos, _+ℤ_, _-ℤ_}
 use borrow.Author.Tests.{eqb-true, eqb-false, eq-eqb, ne-eqb}
 use Rattle.integers.specs.Linear.{up, dn, linear, value, ‹_›, #_, _⊕_, _⊖_}
+use Rattle.integers.specs.Within.{Within}
 use Rattle.rules.specs.Assignments.{Placement}
 use Rattle.labels.specs.Relabel.{Relabelled, Rooted, same-or-not}
-
--- the magnitude of z is at most B
-pub record Within (B : ℕ) (z : ℤ) : Type 0 where
-  pub above : up z ≤ dn z + B
-  pub below : dn z ≤ up z + B
 
 -- no offset of a labelling of at most 512 terms, and no sum of four such, leaves 64 bits
 abbrev pub far : ℕ

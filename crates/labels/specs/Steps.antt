@@ -15,7 +15,8 @@ use Rattle.rules.specs.Rules.{Equal, E0, E1, E2}
 use Rattle.rules.specs.Assignments.{Placement}
 use Rattle.labels.specs.Labelling.{Sound, Lowest, deref-equal}
 use Rattle.labels.specs.Relabel.{Relabelled, Rooted, keeps-lowest, keeps-rooted, keeps-sound, distance}
-use Rattle.labels.specs.Spread.{Within, Spread, members-positive, keeps-spread}
+use Rattle.integers.specs.Within.{Within}
+use Rattle.labels.specs.Spread.{Spread, members-positive, keeps-spread}
 
 pub record State (ts : List Term) (G : Given) (P : Placement) : Type 0 where
   pub sound : Sound ts G P

@@ -14,7 +14,8 @@ use mir.ValLaws.{toZ-ofZ}
 use Rattle.integers.specs.Compare.{eqℤ, eqℤ-true, eqℤ-false}
 use Rattle.integers.specs.Linear.{linear, value, ‹_›, #_, _⊕_}
 use Rattle.rules.specs.Assignments.{Placement, Holds}
-use Rattle.labels.specs.Spread.{Within, far}
+use Rattle.integers.specs.Within.{Within}
+use Rattle.labels.specs.Spread.{far}
 use Rattle.closure.specs.Facts.{comparison}
 use Rattle.closure.specs.Verdict.{holds, holds-true, true-holds}
 use Rattle.types.specs.declared.TermNumber.{TermNumber}

@@ -12,7 +12,9 @@ use sorting::sort;
 use tables::TermRow;
 use tables::term_at;
 use types::DEREF;
+use types::MOST;
 use types::TermNumber;
+use types::index;
 ghost use mathlib.Core.Path.{_≡_};
 ghost use Prim.Native.Nat.{_*_, _^_, _≤_, _<_};
 ghost use lib.Dec.{eqb};
@@ -22,6 +24,7 @@ ghost use Rattle.lists.specs.Lent.{before};
 ghost use Rattle.labels.specs.View.{view};
 ghost use Rattle.closure.specs.Facts.{comparison};
 ghost use Rattle.closure.specs.Verdict.{holds};
+ghost use Rattle.tables.specs.Limits.{most};
 ghost use Rattle.tables.specs.Records.{derefKind};
 ghost use Rattle.tables.specs.Rows.{termAt};
 ghost use Rattle.lastlook.specs.Addresses.{Labelled, addressOf, Meeting, Unequal, Looked};
@@ -43,12 +46,6 @@ enum Neighbours {
 // The room that an address has in a key: addresses are within 2^42.
 const ROOM: u64 = 0x1000_0000_0000;
 
-fn index_of(x: u64) -> usize
-    ensures { λ r. ⌜ r ≡ x ⌝ }
-{
-    x as usize
-}
-
 fn is_deref(terms: &[TermRow], x: TermNumber) -> bool
     requires { ⌜ x .0 < length (now terms) ⌝ }
     ensures { λ r. ⌜ r ≡ eqb (termAt (before terms) (x .0) .kind) derefKind ⌝ }
@@ -61,7 +58,7 @@ fn class_of(terms: &[TermRow], reps: &[u32], x: TermNumber) -> u32
     requires { ⌜ (x .0 < length (now terms)) × (termAt (now terms) (x .0) .number < length (now reps)) ⌝ }
     ensures { λ r. ⌜ r ≡ getD (before reps) (termAt (before terms) (x .0) .number) 0 ⌝ }
 {
-    let inner = index_of(term_at(terms, x).number);
+    let inner = index(term_at(terms, x).number);
     reps[inner]
 }
 
@@ -72,7 +69,7 @@ fn address_of(terms: &[TermRow], reps: &[u32], offs: &[i64], x: TermNumber) -> i
     ensures { λ r. ⌜ r ≡ addressOf (termAt (before terms)) (view (before reps) (before offs)) (x .0) ⌝ }
 {
     let r = term_at(terms, x);
-    let inner = index_of(r.number);
+    let inner = index(r.number);
     sum(r.offset, offs[inner])
 }
 
@@ -123,7 +120,7 @@ fn is_unequal(terms: &[TermRow], reps: &[u32], offs: &[i64], x: TermNumber, y: T
 
 // One number for a class and an address: equal for equal ones, and for no others.
 fn key(class: u32, address: i64) -> u64
-    requires { ⌜ class < 512 ⌝ }
+    requires { ⌜ class < most ⌝ }
     ensures { λ r. ⌜ (r ≡ keyOf class address) × (r < 2 ^ 53) ⌝ }
 {
     class as u64 * ROOM + bits(address) % ROOM
@@ -142,7 +139,7 @@ fn word(terms: &[TermRow], reps: &[u32], offs: &[i64], x: TermNumber) -> u64
 // Lists the words of the dereferences, and returns how many there are.
 fn list_words(terms: &[TermRow], reps: &[u32], offs: &[i64], words: &mut Words) -> usize
     requires { ⌜ Labelled (now terms) (now reps) (now offs) ⌝ }
-    ensures { λ r. ⌜ r ≤ 512 ⌝ }
+    ensures { λ r. ⌜ r ≤ most ⌝ }
 {
     let mut count = 0;
     for x in 0..terms.len() {
@@ -156,11 +153,11 @@ fn list_words(terms: &[TermRow], reps: &[u32], offs: &[i64], words: &mut Words) 
 }
 
 // Notes the place of each of the words by the number of its term.
-fn note_places(words: &Words, count: usize, places: &mut [usize; 512])
-    requires { ⌜ count ≤ 512 ⌝ }
+fn note_places(words: &Words, count: usize, places: &mut [usize; MOST])
+    requires { ⌜ count ≤ most ⌝ }
 {
     for i in 0..count {
-        let x = index_of(words[i] % 512);
+        let x = index(words[i] % 512);
         places[x] = i;
     }
 }
@@ -172,9 +169,9 @@ fn all_stand(
     offs: &[i64],
     words: &Words,
     count: usize,
-    places: &[usize; 512],
+    places: &[usize; MOST],
 ) -> bool
-    requires { ⌜ Labelled (now terms) (now reps) (now offs) × (count ≤ 512) ⌝ }
+    requires { ⌜ Labelled (now terms) (now reps) (now offs) × (count ≤ most) ⌝ }
     ensures { λ r. ⌜ Standing (length (before terms)) (termAt (before terms)) (view (before reps) (before offs)) (before words) count r ⌝ }
 {
     for x in 0..terms.len() {
@@ -203,8 +200,8 @@ fn compare(terms: &[TermRow], reps: &[u32], offs: &[i64], a: u64, b: u64) -> Nei
     if b / 512 < a / 512 {
         return Neighbours::Unordered;
     }
-    let x = index_of(a % 512);
-    let y = index_of(b % 512);
+    let x = index(a % 512);
+    let y = index(b % 512);
     if terms.len() <= x {
         return Neighbours::Unordered;
     }
@@ -228,7 +225,7 @@ fn compare_all(
     words: &Words,
     count: usize,
 ) -> Neighbours
-    requires { ⌜ Labelled (now terms) (now reps) (now offs) × (count ≤ 512) ⌝ }
+    requires { ⌜ Labelled (now terms) (now reps) (now offs) × (count ≤ most) ⌝ }
     ensures { λ r. let P = view (before reps) (before offs) in ⌜ Tested (length (before terms)) (termAt (before terms)) P (Ordered P (before words) count) r ⌝ }
 {
     for i in 1..count {
@@ -264,9 +261,9 @@ fn look_by_order(
     offs: &[i64],
     words: &Words,
     count: usize,
-    places: &[usize; 512],
+    places: &[usize; MOST],
 ) -> Look
-    requires { ⌜ Labelled (now terms) (now reps) (now offs) × (count ≤ 512) ⌝ }
+    requires { ⌜ Labelled (now terms) (now reps) (now offs) × (count ≤ most) ⌝ }
     ensures { λ r. ⌜ Looked (length (before terms)) (termAt (before terms)) (view (before reps) (before offs)) r ⌝ }
 {
     match compare_all(terms, reps, offs, words, count) {
@@ -287,9 +284,9 @@ pub fn unequal_pair(terms: &[TermRow], reps: &[u32], offs: &[i64]) -> Look
     requires { ⌜ Labelled (now terms) (now reps) (now offs) ⌝ }
     ensures { λ r. ⌜ Looked (length (before terms)) (termAt (before terms)) (view (before reps) (before offs)) r ⌝ }
 {
-    let mut words = [0u64; 512];
-    let mut spare = [0u64; 512];
-    let mut places = [0usize; 512];
+    let mut words = [0u64; MOST];
+    let mut spare = [0u64; MOST];
+    let mut places = [0usize; MOST];
     let count = list_words(terms, reps, offs, &mut words);
     sort(&mut words, &mut spare, count);
     note_places(&words, count, &mut places);

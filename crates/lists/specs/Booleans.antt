@@ -1,5 +1,5 @@
 -- Laws of Bool.
-use mathlib.Core.Path.{_≡_, refl}
+use mathlib.Core.Path.{_≡_, refl, sym}
 use mathlib.Core.Bool.{Bool, true, false, _||_}
 
 pub or-false : (a b : Bool) → (a || b) ≡ false → (a ≡ false) × (b ≡ false)
@@ -8,3 +8,9 @@ or-false false b e = (refl, e)
 
 pub both-false : (a b : Bool) → a ≡ false → b ≡ false → (a || b) ≡ false
 both-false a b e f = rw (e, f)
+
+-- two that hold together
+pub same-truth : (a b : Bool) → (a ≡ true → b ≡ true) → (b ≡ true → a ≡ true) → a ≡ b
+same-truth true b f g = sym (f refl)
+same-truth false true f g = g refl
+same-truth false false f g = refl

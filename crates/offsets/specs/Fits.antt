@@ -1,32 +1,17 @@
--- Bounds on sums of offsets, and when they fit 64 bits.
+-- When sums of bounded offsets fit 64 bits.
 use Prim.Native.Nat.{ℕ, zero, suc, _+_, _^_, _<_, _≤_}
 use mathlib.Core.Path.{_≡_, refl, sym, _∙_, ap}
 use mathlib.Core.Bool.{Bool, true, false}
 use native.Mathlib.Omega.{arith}
-use lib.Dec.{eqb}
+use lib.Dec.{eqb, lit<}
 use lib.IntN.{ℤ, pos, negsuc, negℤ, _+ℤ_, _-ℤ_}
 use mir.Syntax.{w32, w64}
 use mir.Val.{SFits, toZ, ofZ}
 use mir.ValLaws.{toZ-ofZ}
 use borrow.Author.Tests.{eqb-true, eqb-false}
-use Rattle.integers.specs.Linear.{up, dn, linear, value, ‹_›, _⊕_, _⊖_, ⊝_}
+use Rattle.integers.specs.Linear.{up, dn}
 use Rattle.integers.specs.Compare.{eqℤ, eq-eqℤ, ne-eqℤ}
-use Rattle.labels.specs.Spread.{Within}
-
-pub within-sum : {A B : ℕ} {a b : ℤ} → Within A a → Within B b → Within (A + B) (a +ℤ b)
-within-sum {a = a} {b = b} p q =
-    let v = value (‹ a › ⊕ ‹ b ›) in
-    record { above = omega (arith, v, p .above, q .above); below = omega (arith, v, p .below, q .below) }
-
-pub within-difference : {A B : ℕ} {a b : ℤ} → Within A a → Within B b → Within (A + B) (a -ℤ b)
-within-difference {a = a} {b = b} p q =
-    let v = value (‹ a › ⊖ ‹ b ›) in
-    record { above = omega (arith, v, p .above, q .below); below = omega (arith, v, p .below, q .above) }
-
-pub within-negation : {A : ℕ} {a : ℤ} → Within A a → Within A (negℤ a)
-within-negation {a = a} p =
-    let v = value (⊝ ‹ a ›) in
-    record { above = omega (arith, v, p .below); below = omega (arith, v, p .above) }
+use Rattle.integers.specs.Within.{Within, within-sum, within-difference, within-negation}
 
 pub within-fits : {B : ℕ} {z : ℤ} → B < 2 ^ 63 → Within B z → SFits w64 z
 unfolding up dn
@@ -40,6 +25,19 @@ fits-within {z = negsuc n} f = record { above = omega arith; below = omega (arit
 
 pub fits-wider : {z : ℤ} → SFits w32 z → SFits w64 z
 fits-wider f = record { sfits = omega (arith, f .sfits) }
+
+-- offsets in code are at most this large: sums, differences and negations of two fit 64 bits
+abbrev pub reach : ℕ
+reach = 2 ^ 60
+
+pub sum-fits : (a b : ℤ) → Within reach a → Within reach b → SFits w64 (a +ℤ b)
+sum-fits a b v w = within-fits (lit< tt) (within-sum v w)
+
+pub difference-fits : (a b : ℤ) → Within reach a → Within reach b → SFits w64 (a -ℤ b)
+difference-fits a b v w = within-fits (lit< tt) (within-difference v w)
+
+pub negation-fits : (a : ℤ) → Within reach a → SFits w64 (negℤ a)
+negation-fits a w = within-fits (lit< tt) (within-negation w)
 
 -- two numbers are equal where their bits are
 pub same-bits : (a b : ℤ) → SFits w64 a → SFits w64 b → eqb (ofZ w64 a) (ofZ w64 b) ≡ eqℤ a b

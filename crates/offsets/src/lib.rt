@@ -1,19 +1,42 @@
-// Offsets: 32-bit in the tables, summed, negated and compared in 64 bits, where no sum within the limits wraps.
+// Offsets: summed, negated and compared in 64 bits, where no sum within the limits wraps.
 // Each function is exact on whole numbers. They are public for the sister crates.
 
 ghost use mathlib.Core.Path.{_≡_};
 ghost use lib.IntN.{ℤ, _+ℤ_, _-ℤ_, negℤ};
 ghost use mir.Val.{SFits, toZ, ofZ};
-ghost use mir.Syntax.{w64};
+ghost use mir.Syntax.{w32, w64};
 ghost use Rattle.integers.specs.Compare.{eqℤ};
 
-// A table's offset in 64 bits.
+// An offset of 32 bits, in 64.
 pub fn widened(z: i32) -> i64
     ensures { λ r. ⌜ r ≡ z ⌝ }
 {
     z as i64
 }
 
+// An offset that fits 32 bits, in 32.
+pub fn narrowed(z: i64) -> i32
+    requires { ⌜ SFits w32 z ⌝ }
+    ensures { λ r. ⌜ r ≡ z ⌝ }
+{
+    z as i32
+}
+
+// The offsets of the tables negated and subtracted, over the whole range of 32 bits (specs/Exact.antt: at the lowest number and around
+// zero).
+pub fn negated(z: i32) -> i64
+    ensures { λ r. ⌜ r ≡ negℤ z ⌝ }
+{
+    -(z as i64)
+}
+
+pub fn subtracted(a: i32, b: i32) -> i64
+    ensures { λ r. ⌜ r ≡ a -ℤ b ⌝ }
+{
+    a as i64 - b as i64
+}
+
+// Sums of labels. The callers know the bounds by which they fit (specs/Fits.antt).
 pub fn sum(a: i64, b: i64) -> i64
     requires { ⌜ SFits w64 (a +ℤ b) ⌝ }
     ensures { λ r. ⌜ r ≡ a +ℤ b ⌝ }
@@ -28,7 +51,7 @@ pub fn difference(a: i64, b: i64) -> i64
     a - b
 }
 
-pub fn negated(a: i64) -> i64
+pub fn opposite(a: i64) -> i64
     requires { ⌜ SFits w64 (negℤ a) ⌝ }
     ensures { λ r. ⌜ r ≡ negℤ a ⌝ }
 {

@@ -1,10 +1,12 @@
--- A run leaves a representative and an offset for each term, a mark for each proposition, an answer for each question.
+-- A run leaves a representative and an offset for each term, a mark for each proposition, a bit for each pair of terms, an answer for
+-- each question.
 use Prim.Native.Nat.{ℕ, zero, suc}
 use mathlib.Core.Path.{_≡_, refl, _∙_}
 use mathlib.Core.Bool.{Bool, true, false}
 use mathlib.Core.List.{List}
 use lib.ListN.{length, set, replicate, length-map, length-replicate, length-set}
 use Rattle.lists.specs.Search.{choose}
+use Rattle.lists.specs.Tabulate.{length-tabulate}
 use Rattle.rules.specs.Terms.{Term, Proposition, Comparison}
 use Rattle.types.specs.Numbers.{answerNumber}
 use Rattle.closure.specs.Facts.{Facts, facts}
@@ -12,13 +14,14 @@ use Rattle.closure.specs.Join.{Label, placed, own, length-own}
 use Rattle.closure.specs.Closure.{closure, length-closure}
 use Rattle.closure.specs.Verdict.{contradictory}
 use Rattle.outcome.specs.Blame.{keptContradictory, dropBelow, blame}
-use Rattle.outcome.specs.PairBits.{bitValue}
+use Rattle.outcome.specs.PairBits.{bitValue, pairBytes, pairBits}
 use Rattle.outcome.specs.Outcome.{Outcome, answer, satisfiable, contradiction, outcome}
 
 pub record Lengths (ts : List Term) (ps : List Proposition) (qs : List Comparison) (o : Outcome) : Type 0 where
   pub representatives : length (o .representatives) ≡ length ts
   pub offsets : length (o .offsets) ≡ length ts
   pub marks : length (o .marks) ≡ length ps
+  pub pairs : length (o .pairs) ≡ pairBytes (length ts)
   pub answers : length (o .answers) ≡ length qs
 
 module _ (ts : List Term) (ps : List Proposition) where
@@ -36,7 +39,7 @@ module _ (ts : List Term) (ps : List Proposition) where
   length-blame = length-drop-below (length ps) (replicate (length ps) true) ∙ length-replicate (length ps) true
 
   pub outcome-lengths : (qs : List Comparison) → Lengths ts ps qs (outcome ts ps qs)
-  unfolding outcome satisfiable contradiction
+  unfolding outcome satisfiable contradiction pairBits
   outcome-lengths qs = go (contradictory ts (facts ts ps))
     where
       F : Facts
@@ -47,11 +50,13 @@ module _ (ts : List Term) (ps : List Proposition) where
         representatives = length-map (own 0 (length ts)) (λ (x : Label). x .rep) ∙ length-own 0 (length ts);
         offsets = length-map (own 0 (length ts)) (λ (x : Label). x .off) ∙ length-own 0 (length ts);
         marks = length-map (blame ts ps) bitValue ∙ length-blame;
+        pairs = length-replicate (pairBytes (length ts)) 0;
         answers = length-replicate (length qs) 3;
       }
       go false = record {
         representatives = length-map (closure ts F) (λ (x : Label). x .rep) ∙ length-closure ts F;
         offsets = length-map (closure ts F) (λ (x : Label). x .off) ∙ length-closure ts F;
         marks = length-replicate (length ps) 0;
+        pairs = length-tabulate _ 0 (pairBytes (length ts));
         answers = length-map qs (λ (q : Comparison). answerNumber (answer ts F (placed (closure ts F)) q));
       }

@@ -2,12 +2,13 @@
 ghost use mathlib.Core.Path.{_≡_};
 ghost use Prim.Native.Nat.{_/_, _<_};
 ghost use lib.ListN.{length};
+ghost use Rattle.lists.specs.Lent.{before, after};
 ghost use Rattle.pairbits.specs.Bits.{isSet, withBit};
 
 // Sets bit i. Public for the crate that fills the pair table, which knows that the table holds the bit.
 pub fn set_bit(bytes: &mut [u8], i: usize)
     requires { ⌜ i / 8 < length (now bytes) ⌝ }
-    ensures { λ _. ⌜ now (bytes .exit) ≡ withBit (now (bytes .entry)) i ⌝ }
+    ensures { λ _. ⌜ after bytes ≡ withBit (before bytes) i ⌝ }
 {
     let k = i / 8;
     bytes[k] = bytes[k] | (1u8 << (i % 8));
@@ -16,7 +17,7 @@ pub fn set_bit(bytes: &mut [u8], i: usize)
 // Whether bit i is 1. Public for the crate that reads the pair table.
 pub fn test_bit(bytes: &[u8], i: usize) -> bool
     requires { ⌜ i / 8 < length (now bytes) ⌝ }
-    ensures { λ r. ⌜ r ≡ isSet (now (bytes .entry)) i ⌝ }
+    ensures { λ r. ⌜ r ≡ isSet (before bytes) i ⌝ }
 {
     ((bytes[i / 8] >> (i % 8)) & 1) == 1
 }

@@ -1,4 +1,4 @@
--- Lines taken one after another into the columns.
+-- Lines taken one after another into the rows.
 use Prim.Native.Nat.{ℕ, _+_, _<_, _≤_}
 use mathlib.Core.Path.{_≡_, refl, ap, _∙_}
 use mathlib.Core.Bool.{true}
@@ -8,52 +8,58 @@ use native.Mathlib.Omega.{arith}
 use lib.ListN.{length}
 use Rattle.types.specs.declared.Refusal.{Refusal}
 use Rattle.tables.specs.Limits.{most}
-use Rattle.text.specs.Lines.{bytesOf}
+use Rattle.text.specs.Lines.{Line, bytesOf}
 use Rattle.text.specs.Frames as frames
 use Rattle.text.specs.Frames.{frameOf, frameOfBytes}
 use Rattle.text.specs.Reading.{Records, Reading, accepted, refused, Step, refuse, go-on, stepFrame, step, withFrame, reading, partOf}
-use Rattle.reader.specs.declared.Frame.{Frame}
+use Rattle.lines.specs.declared.Frame.{Frame}
+use Rattle.lines.specs.Meaning.{meaning}
 use Rattle.reader.specs.declared.Counts.{Counts}
 use Rattle.reader.specs.declared.Taken.the-variants as takens
 use Rattle.reader.specs.declared.Next.{Next}
 use Rattle.reader.specs.declared.Next.the-variants as nexts
 use Rattle.reader.specs.declared.Loaded.{Loaded}
 use Rattle.reader.specs.declared.Loaded.the-variants as loadeds
-use Rattle.reader.specs.Meaning.{meaning}
 use Rattle.reader.specs.Taking.{Counted, groupCount, taken, frameRefusal}
-use Rattle.reader.specs.Columns.{Columns, Room, Stored, put, written, put-written, counted-more}
+use Rattle.reader.specs.Rows.{Rows, RoomForMost, Stored, put, rowsWith, put-rows-with, counted-more}
 
--- an accepted line: the records with it, counted, and in front of the columns C
-pub record Went (C : Columns) (s : Step) (c : Counts) (D : Columns) : Type 0 where
+-- an accepted line: the records with it, counted, and in front of the rows C
+pub record Went (C : Rows) (s : Step) (c : Counts) (D : Rows) : Type 0 where
   pub records : Records
   pub stepped : s ≡ go-on records
   pub counts : Counted c records
-  pub cells : D ≡ written records C
+  pub cells : D ≡ rowsWith records C
 
--- what a line's step leaves in the columns D
-abbrev pub After : Columns → Step → Next → Columns → Type 0
+-- what a line's step leaves in the rows D
+abbrev pub After : Rows → Step → Next → Rows → Type 0
 After C s (nexts.Refused x) D = s ≡ refuse x
 After C s (nexts.Accepted c) D = Went C s c D
 
+-- what a line leaves after any records, counted, in front of any rows C
+abbrev pub Lined : Line → Counts → Rows → Next → Rows → Type 0
+Lined l c E r D = (R : Records) (C : Rows) → RoomForMost C → Counted c R → E ≡ rowsWith R C → After C (step R l) r D
+
+abbrev pub countsOf : Records → Counts
+countsOf R = record { terms = length (R .terms); propositions = length (R .propositions); questions = length (R .questions) }
+
 -- the answer for a whole text
 abbrev pub loaded : List ℕ → Reading → Loaded
-loaded text (accepted R) = loadeds.Accepted (record { terms = length (R .terms); propositions = length (R .propositions); questions = length (R .questions) })
-loaded text (refused f) =
-    loadeds.Refused (f .refusal) (f .place) (partOf text (refused f) .start) (partOf text (refused f) .start + partOf text (refused f) .size)
+loaded text (accepted R) = loadeds.Accepted (countsOf R)
+loaded text (refused f) = loadeds.Refused f (record { start = partOf text (refused f) .start; size = partOf text (refused f) .size })
 
 -- a refused line ends within the text
 abbrev Within : List ℕ → Loaded → Type 0
 Within text (loadeds.Accepted c) = Unit
-Within text (loadeds.Refused x k start end) = end ≤ length text
+Within text (loadeds.Refused f p) = p .start + p .size ≤ length text
 
 pub record JudgedAs (text : List ℕ) (r : Loaded) : Type 0 where
   pub answer : r ≡ loaded text (reading text)
   pub within : Within text r
 
--- what loading a text leaves in the columns D, where they were C
-pub record LoadedAs (text : List ℕ) (C : Columns) (r : Loaded) (D : Columns) : Type 0 where
+-- what loading a text leaves in the rows D, where they were C
+pub record LoadedAs (text : List ℕ) (C : Rows) (r : Loaded) (D : Rows) : Type 0 where
   pub judged : JudgedAs text r
-  pub cells : (R : Records) → reading text ≡ accepted R → D ≡ written R C
+  pub cells : (R : Records) → reading text ≡ accepted R → D ≡ rowsWith R C
 
 -- a judged line's step
 module _ (R : Records) (cs : List ℕ) (f : Frame) (judged : meaning f ≡ frameOfBytes (bytesOf cs)) where
@@ -84,10 +90,10 @@ module _ (R : Records) (cs : List ℕ) (f : Frame) (judged : meaning f ≡ frame
           (g, m, step-judged ∙ ap (stepFrame R) m ∙ s)
 
 -- an accepted frame whose record is stored
-pub went : (R : Records) (C : Columns) (cs : List ℕ) (f : Frame) (c : Counts) (E : Columns) (r : Counts) (D : Columns)
-    → Room C
+pub went : (R : Records) (C : Rows) (cs : List ℕ) (f : Frame) (c : Counts) (E : Rows) (r : Counts) (D : Rows)
+    → RoomForMost C
     → Counted c R
-    → E ≡ written R C
+    → E ≡ rowsWith R C
     → meaning f ≡ frameOfBytes (bytesOf cs)
     → takens.Accepted ≡ taken (frameRefusal R (meaning f))
     → groupCount c f < most
@@ -99,5 +105,5 @@ went R C cs f c E r D room counts e judged accepts below stored =
       records = withFrame R (a .0);
       stepped = a .2;
       counts = rw (stored .counts) (counted-more R c f (a .0) counts (a .1));
-      cells = stored .cells ∙ ap (put c f) e ∙ put-written R C c f (a .0) room counts below (a .1);
+      cells = stored .cells ∙ ap (put c f) e ∙ put-rows-with R C c f (a .0) room counts below (a .1);
     }

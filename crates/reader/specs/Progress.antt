@@ -1,4 +1,4 @@
--- The lines of a text up to a place, taken into the columns.
+-- The lines of a text up to a place, taken into the rows.
 use Prim.Native.Nat.{ℕ, zero, suc, _+_, _-_, _<_, _≤_}
 use mathlib.Core.Path.{_≡_, refl, ap, sym, _∙_}
 use mathlib.Core.Bool.{true}
@@ -15,28 +15,28 @@ use Rattle.text.specs.Reading.{Records, nothing, accepted, refused, refuse, go-
 use Rattle.text.specs.Laws.{step-frame}
 use Rattle.reader.specs.declared.Counts.{Counts}
 use Rattle.reader.specs.declared.Loaded.the-variants as loadeds
-use Rattle.reader.specs.LineEnds.{linesOf-nil, lineOf, lineEnd, end-after, end-within, linesOf-at}
+use Rattle.lines.specs.LineEnds.{linesOf-nil, lineOf, lineEnd, end-after, end-within, linesOf-at}
 use Rattle.reader.specs.Taking.{Counted}
-use Rattle.reader.specs.Columns.{Columns, written, written-nothing}
+use Rattle.reader.specs.Rows.{Rows, rowsWith, rows-with-nothing}
 use Rattle.reader.specs.Loading.{Went, LoadedAs}
 
--- The k lines before the place `at` are taken into the columns D, which were C.
-pub record Progress (text : List ℕ) (C D : Columns) (c : Counts) (at k : ℕ) : Type 0 where
+-- The k lines before the place `at` are taken into the rows D, which were C.
+pub record Progress (text : List ℕ) (C D : Rows) (c : Counts) (at k : ℕ) : Type 0 where
   pub records : Records
   pub counts : Counted c records
-  pub cells : D ≡ written records C
+  pub cells : D ≡ rowsWith records C
   pub reads : reading text ≡ readLines k records (linesOf (drop at text))
   pub lines : drop k (linesOf text) ≡ linesOf (drop at text)
   pub start : lineStart (linesOf text) k ≡ at
   pub within : at ≤ length text
   pub few : k ≤ at
 
-pub progress-none : (text : List ℕ) (C : Columns) → Progress text C C (record { terms = 0; propositions = 0; questions = 0 }) 0 0
+pub progress-none : (text : List ℕ) (C : Rows) → Progress text C C (record { terms = 0; propositions = 0; questions = 0 }) 0 0
 unfolding reading lineStart
 progress-none text C = record {
   records = nothing;
   counts = record { terms = refl; propositions = refl; questions = refl };
-  cells = written-nothing C;
+  cells = rows-with-nothing C;
   reads = refl;
   lines = refl;
   start = refl;
@@ -69,7 +69,7 @@ lineStart-next [] (suc k) l rest e = let z : _≡_ {A = ℕ} 0 1 = cc in absurd 
 lineStart-next (m ∷ ls) zero l rest e = let h : m ≡ l = cc in rw h (omega arith)
 lineStart-next (m ∷ ls) (suc k) l rest e = let i = lineStart-next ls k l rest e in omega arith
 
-module _ (text : List ℕ) (C D : Columns) (c : Counts) (at k : ℕ) (P : Progress text C D c at k) where
+module _ (text : List ℕ) (C D : Rows) (c : Counts) (at k : ℕ) (P : Progress text C D c at k) where
   module _ (more : at < length text) where
     rest : List Line
     rest = linesOf (drop (lineEnd text at + 1) text)
@@ -85,18 +85,20 @@ module _ (text : List ℕ) (C D : Columns) (c : Counts) (at k : ℕ) (P : Progre
     line-length : length (take (lineEnd text at - at) (drop at text)) ≡ lineEnd text at - at
     line-length = let h = end-within text at (P .within) in length-take-le (lineEnd text at - at) (drop at text) (rw (length-drop at text) (omega arith))
 
-    pub progress-refused : (x : Refusal) (E : Columns) → step (P .records) (lineOf text at (lineEnd text at)) ≡ refuse x → LoadedAs text C (loadeds.Refused x k at (lineEnd text at)) E
+    pub progress-refused : (x : Refusal) (E : Rows)
+        → step (P .records) (lineOf text at (lineEnd text at)) ≡ refuse x
+        → LoadedAs text C (loadeds.Refused (record { refusal = x; place = k }) (record { start = at; size = lineEnd text at - at })) E
     unfolding rest
     progress-refused x E e =
         let l = lineOf text at (lineEnd text at) in
         let r : reading text ≡ refused (record { refusal = x; place = k }) = reads-here ∙ readLines-refused k (P .records) l rest x e in
         let n : at + (lineEnd text at - at) ≡ lineEnd text at = let a = end-after text at in omega arith in
         record {
-          judged = record { answer = rw (r, P .start, lines-here, line-length, n); within = end-within text at (P .within) };
+          judged = record { answer = rw (r, P .start, lines-here, line-length); within = rw n (end-within text at (P .within)) };
           cells = λ R a. let z : _≡_ {A = ℕ} 0 1 = cc in absurd (omega arith);
         }
 
-    pub progress-more : (m : Counts) (E : Columns) → Went C (step (P .records) (lineOf text at (lineEnd text at))) m E → Progress text C E m (lineEnd text at + 1) (k + 1)
+    pub progress-more : (m : Counts) (E : Rows) → Went C (step (P .records) (lineOf text at (lineEnd text at))) m E → Progress text C E m (lineEnd text at + 1) (k + 1)
     unfolding rest
     progress-more m E w =
         let l = lineOf text at (lineEnd text at) in

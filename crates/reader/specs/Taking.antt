@@ -1,24 +1,26 @@
--- A frame after the records read so far, which the code holds by their counts and two columns.
+-- A frame after the records read so far, which the code holds by their counts and rows.
 use Prim.Native.Nat.{ℕ, _<_}
 use mathlib.Core.Path.{_≡_, refl, ap, sym, _∙_}
 use mathlib.Core.Bool.{Bool, true, false, _&&_, _||_}
 use mathlib.Core.List.{List, [], _∷_, map}
 use mathlib.Core.Option.{Option, none, some}
 use native.Mathlib.Omega.{arith}
-use lib.Dec.{eqb}
-use lib.IntN.{pos}
+use borrow.Author.Tests.{eq-eqb, ne-eqb, lt-leb}
+use lib.Dec.{eqb, leb}
 use lib.ListN.{length, take, getD}
 use lib.Seq.{getD-take}
 use Rattle.lists.specs.Items.{Item, In, item-below, getD-item, item-map}
 use Rattle.lists.specs.Search.{any, any-true, any-false, any-in}
 use Rattle.types.specs.declared.Refusal.{Refusal}
-use Rattle.types.specs.declared.Refusal.the-variants.{Malformed}
+use Rattle.types.specs.declared.Refusal.the-variants.{InnerNotListed, AtomListedTwice, Malformed}
 use Rattle.tables.specs.Limits.{most}
-use Rattle.tables.specs.Records.{TermRecord, sameAtom}
-use Rattle.text.specs.Frames.{Frame}
+use Rattle.tables.specs.Records.{TermRecord, derefKind, sameAtom}
+use Rattle.tables.specs.Refusals.{refuseIf, termNameFault}
+use Rattle.tables.specs.Rows.{Row, termOfRow, termRow, termAt}
+use Rattle.text.specs.Frames.{Frame, term}
 use Rattle.text.specs.Reading.{Records, isEmpty, frameFault}
-use Rattle.reader.specs.declared.Frame.{Frame as Judged}
-use Rattle.reader.specs.declared.Frame.the-variants.{Term, Proposition, Question, Malformed as Bad}
+use Rattle.lines.specs.declared.Frame.{Frame as Judged}
+use Rattle.lines.specs.declared.Frame.the-variants.{Term, Proposition, Question, Malformed as Bad}
 use Rattle.reader.specs.declared.Counts.{Counts}
 use Rattle.reader.specs.declared.Taken.{Taken}
 use Rattle.reader.specs.declared.Taken.the-variants.{Accepted, Refused}
@@ -35,9 +37,9 @@ frameRefusal R (some f) = frameFault R f
 
 -- the records of a frame's own table
 abbrev pub groupCount : Counts → Judged → ℕ
-groupCount c (Term k n z) = c .terms
-groupCount c (Proposition k l z r) = c .propositions
-groupCount c (Question l z r) = c .questions
+groupCount c (Term r) = c .terms
+groupCount c (Proposition p) = c .propositions
+groupCount c (Question q) = c .questions
 groupCount c Bad = 0
 
 -- the frame's table, with n records, has room for its record if the frame is accepted
@@ -56,13 +58,12 @@ pub record Counted (c : Counts) (R : Records) : Type 0 where
   pub propositions : c .propositions ≡ length (R .propositions)
   pub questions : c .questions ≡ length (R .questions)
 
--- the columns start with the kinds and the numbers of the term records
-pub record Listing (ks ns : List ℕ) (rs : List TermRecord) : Type 0 where
-  pub kinds : take (length rs) ks ≡ map (λ r. r .kind) rs
-  pub numbers : take (length rs) ns ≡ map (λ r. r .number) rs
+-- the rows start with those of the term records
+abbrev pub Listing : List Row → List TermRecord → Type 0
+Listing rows rs = take (length rs) rows ≡ map termRow rs
 
-abbrev pub sameRecord : ℕ → ℕ → TermRecord → Bool
-sameRecord kind number r = eqb kind (r .kind) && eqb number (r .number)
+abbrev pub sameRecord : TermRecord → TermRecord → Bool
+sameRecord r s = eqb (r .kind) (s .kind) && eqb (r .number) (s .number)
 
 pub empty : {A : Type 0} (l : List A) → length l ≡ 0 → isEmpty l ≡ true
 empty [] e = refl
@@ -93,30 +94,49 @@ module _ {A : Type 0} (p : A → Bool) (l : List A) where
       go true e = let r = any-true q l e in any-in p l (r .0) (r .1) (f (r .0) ∙ r .2)
       go false e = any-none (λ x i. f x ∙ any-false q l e x i)
 
--- a column that starts with a field of the records
-column-at : (f : TermRecord → ℕ) (rs : List TermRecord) (column : List ℕ) → take (length rs) column ≡ map f rs → (k : ℕ) (x : TermRecord) → Item rs k x → getD column k 0 ≡ f x
-column-at f rs column e k x i =
-    sym (getD-take (length rs) column k 0 (item-below rs k i)) ∙ ap (λ (l : List ℕ). getD l k 0) e ∙ item-map f rs k 0 i
+module _ (rows : List Row) (rs : List TermRecord) (L : Listing rows rs) (r : TermRecord) where
+  row-at : (k : ℕ) (x : TermRecord) → Item rs k x → getD rows k [] ≡ termRow x
+  row-at k x i =
+      sym (getD-take (length rs) rows k [] (item-below rs k i)) ∙ ap (λ (l : List Row). getD l k []) L ∙ item-map termRow rs k [] i
 
-module _ (ks ns : List ℕ) (rs : List TermRecord) (L : Listing ks ns rs) (kind number : ℕ) where
-  same-at : (k : ℕ) (x : TermRecord) → Item rs k x → (eqb kind (getD ks k 0) && eqb number (getD ns k 0)) ≡ sameRecord kind number x
-  same-at k x i = rw (column-at (λ r. r .kind) rs ks (L .kinds) k x i, column-at (λ r. r .number) rs ns (L .numbers) k x i)
+  same-at : (k : ℕ) (x : TermRecord) → Item rs k x → sameRecord r (termAt rows k) ≡ sameRecord r x
+  unfolding termOfRow termRow
+  same-at k x i = rw (row-at k x i)
 
-  pub listed-here : (k : ℕ) → k < length rs → (eqb kind (getD ks k 0) && eqb number (getD ns k 0)) ≡ true → any (sameRecord kind number) rs ≡ true
+  pub listed-here : (k : ℕ) → k < length rs → sameRecord r (termAt rows k) ≡ true → any (sameRecord r) rs ≡ true
   listed-here k h e =
-      let x = getD rs k (record { kind = 0; number = 0; offset = pos 0 }) in
-      let i : Item rs k x = getD-item rs k (record { kind = 0; number = 0; offset = pos 0 }) h in
-      any-in (sameRecord kind number) rs x (k, i) (sym (same-at k x i) ∙ e)
+      let x = getD rs k r in
+      let i : Item rs k x = getD-item rs k r h in
+      any-in (sameRecord r) rs x (k, i) (sym (same-at k x i) ∙ e)
 
-  pub listed-nowhere : ((k : ℕ) → k < length rs → (eqb kind (getD ks k 0) && eqb number (getD ns k 0)) ≡ false) → any (sameRecord kind number) rs ≡ false
-  listed-nowhere f = any-none (sameRecord kind number) rs (λ x i. sym (same-at (i .0) x (i .1)) ∙ f (i .0) (item-below rs (i .0) (i .1)))
+  pub listed-nowhere : ((k : ℕ) → k < length rs → sameRecord r (termAt rows k) ≡ false) → any (sameRecord r) rs ≡ false
+  listed-nowhere f = any-none (sameRecord r) rs (λ x i. sym (same-at (i .0) x (i .1)) ∙ f (i .0) (item-below rs (i .0) (i .1)))
 
--- the scan for a repeated atom, where the kind is an atom's, and where it is not
-module _ (r : TermRecord) (rs : List TermRecord) where
-  pub atom-repeated : (eqb (r .kind) 1 || eqb (r .kind) 2) ≡ true → any (sameAtom r) rs ≡ any (sameRecord (r .kind) (r .number)) rs
+-- a term record in its place and within the limit: what is left are its names
+module _ (R : Records) (t : TermRecord) (first : length (R .propositions) ≡ 0) (second : length (R .questions) ≡ 0) (room : length (R .terms) < most) where
+  term-named : frameFault R (term t) ≡ termNameFault (R .terms) t
+  unfolding frameFault
+  term-named = simp (empty (R .propositions) first, empty (R .questions) second, lt-leb most (length (R .terms)) room)
+
+  pub inner-unlisted : t .kind ≡ derefKind → leb (length (R .terms)) (t .number) ≡ true → frameFault R (term t) ≡ some InnerNotListed
+  unfolding termNameFault
+  inner-unlisted k e = term-named ∙ rw (eq-eqb (t .kind) derefKind k, e)
+
+  -- an atom's scan is for its kind and number, another record's finds nothing
+  atom-scanned : (b : Bool) → (eqb (t .kind) 1 || eqb (t .kind) 2) ≡ b → any (sameAtom t) (R .terms) ≡ b && any (sameRecord t) (R .terms)
   unfolding sameAtom
-  atom-repeated e = any-same (sameAtom r) rs (sameRecord (r .kind) (r .number)) (λ x. rw e)
+  atom-scanned true e = any-same (sameAtom t) (R .terms) (sameRecord t) (λ x. rw e)
+  atom-scanned false e = any-none (sameAtom t) (R .terms) (λ x i. rw e)
 
-  pub no-atom : (eqb (r .kind) 1 || eqb (r .kind) 2) ≡ false → any (sameAtom r) rs ≡ false
-  unfolding sameAtom
-  no-atom e = any-none (sameAtom r) rs (λ x i. rw e)
+  pub inner-listed : t .kind ≡ derefKind → leb (length (R .terms)) (t .number) ≡ false → frameFault R (term t) ≡ none
+  unfolding termNameFault
+  inner-listed k e =
+      let n : (eqb (t .kind) 1 || eqb (t .kind) 2) ≡ false = rw k in
+      term-named ∙ rw (eq-eqb (t .kind) derefKind k, e, atom-scanned false n)
+
+  pub no-inner : (t .kind ≡ derefKind → ⊥)
+      → (b : Bool)
+      → (eqb (t .kind) 1 || eqb (t .kind) 2) ≡ b
+      → frameFault R (term t) ≡ refuseIf (b && any (sameRecord t) (R .terms)) AtomListedTwice
+  unfolding termNameFault
+  no-inner k b e = term-named ∙ rw (ne-eqb (t .kind) derefKind k, atom-scanned b e)

@@ -1,54 +1,69 @@
 // A judged frame after the records read so far.
-use crate::AUXILIARY;
 use crate::Counts;
-use crate::DEREFERENCE;
-use crate::Frame;
-use crate::MOST;
 use crate::Taken;
-use crate::VARIABLE;
+use lines::Frame;
+use tables::TermRow;
+use tables::term_at;
+use types::AUXILIARY;
+use types::DEREF;
+use types::MOST;
+use types::PropositionRecord;
+use types::QuestionRecord;
 use types::Refusal;
+use types::TermNumber;
+use types::TermRecord;
+use types::VARIABLE;
 ghost use mathlib.Core.Path.{_≡_};
 ghost use mathlib.Core.List.{List};
-ghost use mathlib.Core.Bool.{_&&_, _||_};
-ghost use Prim.Native.Nat.{ℕ, _≤_};
-ghost use lib.Dec.{eqb};
-ghost use lib.IntN.{ℤ};
+ghost use mathlib.Core.Bool.{_||_};
+ghost use Prim.Native.Nat.{_≤_};
+ghost use lib.Dec.{eqb, leb};
 ghost use lib.ListN.{length};
+ghost use Rattle.tables.specs.Limits.{most};
+ghost use Rattle.lists.specs.Lent.{before};
 ghost use Rattle.lists.specs.Search.{any};
-ghost use Rattle.tables.specs.Records.{TermRecord};
+ghost use Rattle.tables.specs.QuestionTable.{asked};
 ghost use Rattle.text.specs.Reading.{Records, frameFault};
 ghost use Rattle.text.specs.Frames.{term, proposition, question};
-ghost use Rattle.reader.specs.Meaning.{meaning};
+ghost use Rattle.lines.specs.Meaning.{meaning};
 ghost use Rattle.reader.specs.Taking.{sameRecord, Listing, Counted, Took, groupCount, taken, frameRefusal};
 
-fn same(kind: u8, number: u32, kind2: u8, number2: u32) -> bool
-    ensures { λ r. ⌜ r ≡ (eqb kind kind2 && eqb number number2) ⌝ }
+fn same(a: TermRecord, b: TermRecord) -> bool
+    ensures { λ r. ⌜ r ≡ sameRecord a b ⌝ }
 {
-    kind == kind2 && number == number2
+    (a.kind == b.kind) & (a.number == b.number)
 }
 
-// One of the term records read so far has this kind and number.
-fn listed(count: usize, kinds: &[u8], numbers: &[u32], kind: u8, number: u32) -> bool
-    requires { ⌜ (count ≤ length (now kinds)) × (count ≤ length (now numbers)) ⌝ }
-    ensures { λ r. ⌜ ((rs : List TermRecord) → count ≡ length rs → Listing (now (kinds .entry)) (now (numbers .entry)) rs → r ≡ any (sameRecord kind number) rs) ⌝ }
+// One of the first `count` records has this one's kind and number.
+fn listed(t: TermRecord, count: usize, terms: &[TermRow]) -> bool
+    requires { ⌜ count ≤ length (now terms) ⌝ }
+    ensures { λ r. ⌜ ((rs : List TermRecord) → count ≡ length rs → Listing (before terms) rs → r ≡ any (sameRecord t) rs) ⌝ }
 {
     for k in 0..count {
-        if same(kind, number, kinds[k], numbers[k]) {
+        if same(t, term_at(terms, TermNumber(k))) {
             return true;
         }
     }
     false
 }
 
-fn is_atom(kind: u8) -> bool
+fn is_atom(kind: u64) -> bool
     ensures { λ r. ⌜ r ≡ (eqb kind 1 || eqb kind 2) ⌝ }
 {
-    kind == VARIABLE || kind == AUXILIARY
+    (kind == VARIABLE) | (kind == AUXILIARY)
 }
 
-fn take_term(counts: Counts, kinds: &[u8], numbers: &[u32], kind: u8, number: u32) -> Taken
-    requires { ⌜ (512 ≤ length (now kinds)) × (512 ≤ length (now numbers)) ⌝ }
-    ensures { λ r. ⌜ Took (counts .terms) r ((R : Records) (z : ℤ) → Counted counts R → Listing (now (kinds .entry)) (now (numbers .entry)) (R .terms) → r ≡ taken (frameFault R (term (record { kind = kind; number = number; offset = z })))) ⌝ }
+// No term of so many has this number.
+fn is_unlisted(number: u64, terms: usize) -> bool
+    ensures { λ r. ⌜ r ≡ leb terms number ⌝ }
+{
+    terms <= number as usize
+}
+
+fn take_term(t: TermRecord, counts: Counts, terms: &[TermRow]) -> Taken
+    requires { ⌜ most ≤ length (now terms) ⌝ }
+    ensures { λ r. ⌜ Took (counts .terms) r
+        ((R : Records) → Counted counts R → Listing (before terms) (R .terms) → r ≡ taken (frameFault R (term t))) ⌝ }
 {
     if 0 < counts.propositions {
         return Taken::Refused(Refusal::GroupOrder);
@@ -59,23 +74,24 @@ fn take_term(counts: Counts, kinds: &[u8], numbers: &[u32], kind: u8, number: u3
     if MOST <= counts.terms {
         return Taken::Refused(Refusal::TooManyTerms);
     }
-    if kind == DEREFERENCE {
-        if counts.terms <= number as usize {
+    if t.kind == DEREF {
+        if is_unlisted(t.number, counts.terms) {
             return Taken::Refused(Refusal::InnerNotListed);
         }
         return Taken::Accepted;
     }
-    if !is_atom(kind) {
+    if !is_atom(t.kind) {
         return Taken::Accepted;
     }
-    if listed(counts.terms, kinds, numbers, kind, number) {
+    if listed(t, counts.terms, terms) {
         return Taken::Refused(Refusal::AtomListedTwice);
     }
     Taken::Accepted
 }
 
-fn take_proposition(counts: Counts, left: u32, right: u32) -> Taken
-    ensures { λ r. ⌜ Took (counts .propositions) r ((R : Records) (k : ℕ) (z : ℤ) → Counted counts R → r ≡ taken (frameFault R (proposition (record { kind = k; left = left; offset = z; right = right })))) ⌝ }
+fn take_proposition(p: PropositionRecord, counts: Counts) -> Taken
+    ensures { λ r. ⌜ Took (counts .propositions) r
+        ((R : Records) → Counted counts R → r ≡ taken (frameFault R (proposition p))) ⌝ }
 {
     if 0 < counts.questions {
         return Taken::Refused(Refusal::GroupOrder);
@@ -83,53 +99,35 @@ fn take_proposition(counts: Counts, left: u32, right: u32) -> Taken
     if MOST <= counts.propositions {
         return Taken::Refused(Refusal::TooManyPropositions);
     }
-    if counts.terms <= left as usize {
-        return Taken::Refused(Refusal::PropositionTermNotListed);
-    }
-    if counts.terms <= right as usize {
+    if is_unlisted(p.left, counts.terms) | is_unlisted(p.right, counts.terms) {
         return Taken::Refused(Refusal::PropositionTermNotListed);
     }
     Taken::Accepted
 }
 
-fn take_question(counts: Counts, left: u32, right: u32) -> Taken
-    ensures { λ r. ⌜ Took (counts .questions) r ((R : Records) (z : ℤ) → Counted counts R → r ≡ taken (frameFault R (question (record { left = left; offset = z; right = right })))) ⌝ }
+fn take_question(q: QuestionRecord, counts: Counts) -> Taken
+    ensures { λ r. ⌜ Took (counts .questions) r
+        ((R : Records) → Counted counts R → r ≡ taken (frameFault R (question (asked q)))) ⌝ }
 {
     if MOST <= counts.questions {
         return Taken::Refused(Refusal::TooManyQuestions);
     }
-    if counts.terms <= left as usize {
-        return Taken::Refused(Refusal::QuestionTermNotListed);
-    }
-    if counts.terms <= right as usize {
+    if is_unlisted(q.left, counts.terms) | is_unlisted(q.right, counts.terms) {
         return Taken::Refused(Refusal::QuestionTermNotListed);
     }
     Taken::Accepted
 }
 
-// A frame after the records R read so far: the counts are theirs, and the two columns list their terms. Public for other readers of
-// frames in this project; `read` has made room before it calls it.
-pub fn take_frame(counts: Counts, kinds: &[u8], numbers: &[u32], frame: Frame) -> Taken
-    requires { ⌜ (512 ≤ length (now kinds)) × (512 ≤ length (now numbers)) ⌝ }
-    ensures { λ r. ⌜ Took (groupCount counts frame) r ((R : Records) → Counted counts R → Listing (now (kinds .entry)) (now (numbers .entry)) (R .terms) → r ≡ taken (frameRefusal R (meaning frame))) ⌝ }
+// A frame after the records R read so far: the counts are theirs, and the rows start with their terms.
+pub(crate) fn take_frame(frame: Frame, counts: Counts, terms: &[TermRow]) -> Taken
+    requires { ⌜ most ≤ length (now terms) ⌝ }
+    ensures { λ r. ⌜ Took (groupCount counts frame) r
+        ((R : Records) → Counted counts R → Listing (before terms) (R .terms) → r ≡ taken (frameRefusal R (meaning frame))) ⌝ }
 {
     match frame {
-        Frame::Term {
-            kind,
-            number,
-            offset: _,
-        } => take_term(counts, kinds, numbers, kind, number),
-        Frame::Proposition {
-            kind: _,
-            left,
-            offset: _,
-            right,
-        } => take_proposition(counts, left, right),
-        Frame::Question {
-            left,
-            offset: _,
-            right,
-        } => take_question(counts, left, right),
+        Frame::Term(t) => take_term(t, counts, terms),
+        Frame::Proposition(p) => take_proposition(p, counts),
+        Frame::Question(q) => take_question(q, counts),
         Frame::Malformed => Taken::Refused(Refusal::Malformed),
     }
 }

@@ -34,7 +34,7 @@ pub accepts : (o : Option Fault) {a : Acceptance} → a ≡ acceptance o → a �
 accepts none e h = refl
 accepts (some f) e h = cc
 
-refuses : (o : Option Fault) {a : Acceptance} {x : Fault} → a ≡ acceptance o → a ≡ Refused x → o ≡ some x
+pub refuses : (o : Option Fault) {a : Acceptance} {x : Fault} → a ≡ acceptance o → a ≡ Refused x → o ≡ some x
 refuses none e h = cc
 refuses (some f) e h = cc
 

@@ -48,7 +48,7 @@ unfolding questionsFault
 questions-ext n q f g same = first-ext _ _ q (λ k h. rw (same k h))
 
 -- a table of just the rows that are counted
-abbrev counted : Table → Table
+abbrev pub counted : Table → Table
 counted T = let rows = take (T .count) (T .rows) in record { count = length rows; rows = rows }
 
 pub parts-fault :

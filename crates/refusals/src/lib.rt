@@ -1,4 +1,4 @@
-// The refusals of the three tables, in their order. The functions are public for the crate `solving`.
+// The refusals of the three tables, in their order. The functions are public for the crate `solver`.
 mod fields;
 mod propositions;
 mod questions;

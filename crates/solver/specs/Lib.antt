@@ -1,7 +1,11 @@
--- What the solver writes, and why it is what paper 01 says.
-pub mod Columns
+-- The promises of the solver's functions, and why the code keeps them.
+pub mod Call
+pub mod Counted
+pub mod Cells
+pub mod Solving
+pub mod Kept
+pub mod Verdict
 pub mod Blaming
 pub mod Results
-pub mod Answered
-pub mod Verdict
+pub mod Answering
 pub mod Demands

@@ -1,6 +1,6 @@
 -- A table of propositions over n terms: m records, whatever holds them. Its faults, the propositions it stands for, and the laws of an
 -- accepted one.
-use Prim.Native.Nat.{ℕ, _<_}
+use Prim.Native.Nat.{ℕ, _<_, _≤_}
 use mathlib.Core.Path.{_≡_, refl, sym, _∙_, ap}
 use mathlib.Core.Logic.{_⊎_, ⊎-elim}
 use mathlib.Core.Bool.{Bool, true, false, _||_}
@@ -9,6 +9,8 @@ use mathlib.Core.Option.{Option, none, some}
 use native.Mathlib.Omega.{arith}
 use lib.Dec.{leb}
 use lib.IntN.{ℤ}
+use mir.Syntax.{w32}
+use mir.Val.{SFits}
 use lib.ListN.{length, getD}
 use borrow.Author.Tests.{leb-false}
 use Rattle.lists.specs.Booleans.{or-false}
@@ -17,11 +19,11 @@ use Rattle.lists.specs.Tabulate.{tabulate, length-tabulate, from-zero, tabulate
 use Rattle.types.specs.declared.Refusal.{Refusal}
 use Rattle.types.specs.declared.Refusal.the-variants.{PropositionTermNotListed}
 use Rattle.rules.specs.Terms.{Term, Proposition, equality, disequality, block-disequality, Given, DistinctVariables, listed, WellFormed}
-use Rattle.labels.specs.Spread.{Within}
+use Rattle.integers.specs.Within.{Within}
 use Rattle.labels.specs.Steps.{Bounded}
 use Rattle.tables.specs.Limits.{offsetLimit}
 use Rattle.tables.specs.Records.{TermRecord, PropositionRecord, equalityKind, disequalityKind, blockDisequalityKind, propositionOf, orDefault}
-use Rattle.tables.specs.Stands.{leftOf, rightOf, Asserts, asserts, equality-by-kind, disequality-by-kind, block-by-kind}
+use Rattle.tables.specs.Stands.{leftOf, rightOf, Asserts, asserts, equality-by-kind, disequality-by-kind, block-by-kind, proposition-kind-at-most}
 use Rattle.tables.specs.Refusals.{Fault, orElse, malformed, firstFault, propositionNameFault, propositionFault}
 use Rattle.tables.specs.RefusalLaws.{orElse-none, refuseIf-none, malformed-none}
 use Rattle.tables.specs.TermTable.{AcceptedTerms, termsFrom, length-terms-from, deref-earlier, default-some}
@@ -93,6 +95,13 @@ module _ (n m : ℕ) (rec : ℕ → PropositionRecord) (accepted : AcceptedPropo
   -- its offset is within the limit
   pub proposition-offset-within : (k : ℕ) → k < m → Within offsetLimit (rec k .offset)
   proposition-offset-within k h = from-proposition k h .2 .within
+
+  -- and fits 32 bits
+  pub proposition-offset-fits : (k : ℕ) → k < m → SFits w32 (rec k .offset)
+  proposition-offset-fits k h = from-proposition k h .2 .fits
+
+  pub proposition-kind-below : (k : ℕ) → k < m → rec k .kind ≤ blockDisequalityKind
+  proposition-kind-below k h = let r = from-proposition k h in omega (arith, r .2 .kind, proposition-kind-at-most (r .0))
 
   names-below : (k : ℕ) {x : Proposition} → Item (propositionsFrom m rec) k x → (leftOf x < n) × (rightOf x < n)
   names-below k i =

@@ -1,17 +1,20 @@
 -- A well-formed record and the term or proposition that it stands for have the same kind and fields.
-use Prim.Native.Nat.{ℕ, _<_}
+use Prim.Native.Nat.{ℕ, _<_, _≤_}
 use mathlib.Core.Path.{_≡_, refl, sym, _∙_}
+use mathlib.Core.Logic.{_≢_}
 use mathlib.Core.Bool.{Bool, true, false, _&&_}
 use mathlib.Core.Option.{Option, none, some}
 use native.Mathlib.Omega.{arith}
 use lib.Dec.{eqb, ltb}
 use lib.IntN.{ℤ, pos, negsuc}
-use borrow.Author.Tests.{eqb-true, ne-eqb, ltb-true}
-use Rattle.integers.specs.Linear.{up, dn, value, #_}
+use mir.Syntax.{w32}
+use mir.Val.{SFits}
+use borrow.Author.Tests.{eqb-true, ltb-true}
+use Rattle.offsets.specs.Fits.{fits-within}
 use Rattle.integers.specs.Compare.{eqℤ, eqℤ-true}
 use Rattle.lists.specs.Search.{choose}
 use Rattle.rules.specs.Terms.{Term, variable, auxiliary, deref, Proposition, equality, disequality, block-disequality}
-use Rattle.labels.specs.Spread.{Within}
+use Rattle.integers.specs.Within.{Within}
 use Rattle.closure.specs.Closure.{and-true}
 use Rattle.tables.specs.Limits.{atomLimit, offsetLimit}
 use Rattle.tables.specs.Records.{TermRecord, PropositionRecord, variableKind, auxiliaryKind, derefKind, equalityKind, disequalityKind, blockDisequalityKind, when, atomRecord, offsetInRange, termOf, propositionOf}
@@ -35,22 +38,32 @@ pub record StandsFor (r : TermRecord) (x : Term) : Type 0 where
   pub kind : r .kind ≡ kindOf x
   pub number : r .number ≡ numberOf x
   pub offset : r .offset ≡ offsetOf x
+  pub atom : r .kind ≢ derefKind → r .number < atomLimit
+  pub fits : SFits w32 (r .offset)
 
 pub when-some : {A : Type 0} (b : Bool) (a x : A) → when b a ≡ some x → (b ≡ true) × (a ≡ x)
 when-some true a x e = (refl, cc)
 when-some false a x e = (cc, cc)
 
-pub in-range : (z : ℤ) → offsetInRange z ≡ true → Within offsetLimit z
-unfolding offsetInRange up dn
-in-range (pos n) e = let h = ltb-true n offsetLimit e in record { above = omega arith; below = omega arith }
-in-range (negsuc n) e = let h = ltb-true n offsetLimit e in record { above = omega arith; below = omega arith }
+-- an offset in range fits 32 bits
+pub range-fits : (z : ℤ) → offsetInRange z ≡ true → SFits w32 z
+unfolding offsetInRange
+range-fits (pos n) e = record { sfits = ltb-true n offsetLimit e }
+range-fits (negsuc n) e = record { sfits = ltb-true n offsetLimit e }
 
-zero-within : (z : ℤ) → z ≡ pos 0 → Within offsetLimit z
-zero-within z e = rw e (record { above = omega (arith, value (# 0)); below = omega (arith, value (# 0)) })
+pub in-range : (z : ℤ) → offsetInRange z ≡ true → Within offsetLimit z
+in-range z e = fits-within (range-fits z e)
+
+zero-fits : (z : ℤ) → z ≡ pos 0 → SFits w32 z
+zero-fits z e = rw e (record { sfits = omega arith })
 
 atom-offset : (r : TermRecord) → atomRecord r ≡ true → r .offset ≡ pos 0
 unfolding atomRecord
 atom-offset r e = eqℤ-true _ _ (and-true (ltb (r .number) atomLimit) (eqℤ (r .offset) (pos 0)) e .1)
+
+atom-number : (r : TermRecord) → atomRecord r ≡ true → r .number < atomLimit
+unfolding atomRecord
+atom-number r e = ltb-true _ _ (and-true (ltb (r .number) atomLimit) (eqℤ (r .offset) (pos 0)) e .0)
 
 pub stands-for : (r : TermRecord) (x : Term) → termOf r ≡ some x → StandsFor r x
 unfolding termOf
@@ -68,22 +81,24 @@ stands-for r x = go (eqb (r .kind) variableKind) refl (eqb (r .kind) auxiliaryKi
         StandsFor r x
     go true k b l e =
         let s = when-some (atomRecord r) (variable (r .number)) x e in
-        rw (← (s .1)) (record { kind = eqb-true _ _ k; number = refl; offset = atom-offset r (s .0) })
+        rw (← (s .1)) (record { kind = eqb-true _ _ k; number = refl; offset = atom-offset r (s .0); atom = λ m. atom-number r (s .0); fits = zero-fits (r .offset) (atom-offset r (s .0)) })
     go false k true l e =
         let s = when-some (atomRecord r) (auxiliary (r .number)) x e in
-        rw (← (s .1)) (record { kind = eqb-true _ _ l; number = refl; offset = atom-offset r (s .0) })
+        rw (← (s .1)) (record { kind = eqb-true _ _ l; number = refl; offset = atom-offset r (s .0); atom = λ m. atom-number r (s .0); fits = zero-fits (r .offset) (atom-offset r (s .0)) })
     go false k false l e =
         let s = when-some (eqb (r .kind) derefKind && offsetInRange (r .offset)) (deref (r .offset) (r .number)) x e in
-        rw (← (s .1)) (record { kind = eqb-true _ _ (and-true (eqb (r .kind) derefKind) _ (s .0) .0); number = refl; offset = refl })
+        let t = and-true (eqb (r .kind) derefKind) (offsetInRange (r .offset)) (s .0) in
+        let d = eqb-true (r .kind) derefKind (t .0) in
+        rw (← (s .1)) (record { kind = d; number = refl; offset = refl; atom = λ m. absurd (m d); fits = range-fits (r .offset) (t .1) })
 
 -- the offset of a well-formed dereference is within the limit
 pub deref-within : (r : TermRecord) (x : Term) → termOf r ≡ some x → r .kind ≡ derefKind → Within offsetLimit (r .offset)
-unfolding termOf
-deref-within r x e k =
-    let t : eqb (r .kind) variableKind ≡ false = ne-eqb (r .kind) variableKind (λ v. omega arith) in
-    let u : eqb (r .kind) auxiliaryKind ≡ false = ne-eqb (r .kind) auxiliaryKind (λ v. omega arith) in
-    let s = when-some (eqb (r .kind) derefKind && offsetInRange (r .offset)) (deref (r .offset) (r .number)) x (rw (t, u) at e) in
-    in-range (r .offset) (and-true (eqb (r .kind) derefKind) _ (s .0) .1)
+deref-within r x e k = fits-within (stands-for r x e .fits)
+
+pub kind-at-most : (x : Term) → kindOf x ≤ derefKind
+kind-at-most (variable x) = omega arith
+kind-at-most (auxiliary x) = omega arith
+kind-at-most (deref z t) = omega arith
 
 -- a term is told by its kind
 pub deref-by-kind : (x : Term) → kindOf x ≡ derefKind → x ≡ deref (offsetOf x) (numberOf x)
@@ -122,6 +137,7 @@ pub record Asserts (p : PropositionRecord) (x : Proposition) : Type 0 where
   pub offset : p .offset ≡ propositionOffsetOf x
   pub right : p .right ≡ rightOf x
   pub within : Within offsetLimit (p .offset)
+  pub fits : SFits w32 (p .offset)
 
 pub asserts : (p : PropositionRecord) (x : Proposition) → propositionOf p ≡ some x → Asserts p x
 unfolding propositionOf
@@ -139,15 +155,20 @@ asserts p x = go (eqb (p .kind) equalityKind) refl (eqb (p .kind) disequalityKin
         Asserts p x
     go true k b l e =
         let s = when-some (offsetInRange (p .offset)) (equality (p .left) (p .offset) (p .right)) x e in
-        rw (← (s .1)) (record { kind = eqb-true _ _ k; left = refl; offset = refl; right = refl; within = in-range (p .offset) (s .0) })
+        rw (← (s .1)) (record { kind = eqb-true _ _ k; left = refl; offset = refl; right = refl; within = in-range (p .offset) (s .0); fits = range-fits (p .offset) (s .0) })
     go false k true l e =
         let s = when-some (offsetInRange (p .offset)) (disequality (p .left) (p .offset) (p .right)) x e in
-        rw (← (s .1)) (record { kind = eqb-true _ _ l; left = refl; offset = refl; right = refl; within = in-range (p .offset) (s .0) })
+        rw (← (s .1)) (record { kind = eqb-true _ _ l; left = refl; offset = refl; right = refl; within = in-range (p .offset) (s .0); fits = range-fits (p .offset) (s .0) })
     go false k false l e =
         let s = when-some (eqb (p .kind) blockDisequalityKind && eqℤ (p .offset) (pos 0)) (block-disequality (p .left) (p .right)) x e in
         let t = and-true (eqb (p .kind) blockDisequalityKind) (eqℤ (p .offset) (pos 0)) (s .0) in
         let z = eqℤ-true (p .offset) (pos 0) (t .1) in
-        rw (← (s .1)) (record { kind = eqb-true _ _ (t .0); left = refl; offset = z; right = refl; within = zero-within (p .offset) z })
+        rw (← (s .1)) (record { kind = eqb-true _ _ (t .0); left = refl; offset = z; right = refl; within = fits-within (zero-fits (p .offset) z); fits = zero-fits (p .offset) z })
+
+pub proposition-kind-at-most : (x : Proposition) → propositionKindOf x ≤ blockDisequalityKind
+proposition-kind-at-most (equality t1 z t2) = omega arith
+proposition-kind-at-most (disequality t1 z t2) = omega arith
+proposition-kind-at-most (block-disequality t1 t2) = omega arith
 
 -- a proposition is told by its kind
 pub equality-by-kind : (x : Proposition) → propositionKindOf x ≡ equalityKind → x ≡ equality (leftOf x) (propositionOffsetOf x) (rightOf x)

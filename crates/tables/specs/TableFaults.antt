@@ -6,14 +6,14 @@ use mathlib.Core.List.{List}
 use mathlib.Core.Option.{Option, none, some}
 use lib.Dec.{ltb}
 use lib.ListN.{length}
-use borrow.Author.Tests.{ltb-false}
-use Rattle.lists.specs.Booleans.{or-false}
+use borrow.Author.Tests.{ltb-false, le-ltb}
+use Rattle.lists.specs.Booleans.{or-false, both-false}
 use Rattle.types.specs.declared.Refusal.{Refusal}
 use Rattle.types.specs.declared.Refusal.the-variants.{TooManyTerms, TooManyPropositions, TooManyQuestions, TooShort}
 use Rattle.types.specs.declared.Acceptance.{Acceptance}
 use Rattle.tables.specs.Rows.{Row, termAt, propositionAt, questionAt}
 use Rattle.tables.specs.Refusals.{Fault, orElse, faultIf}
-use Rattle.tables.specs.RefusalLaws.{orElse-none, faultIf-none, none-at}
+use Rattle.tables.specs.RefusalLaws.{orElse-none, faultIf-none, none-at, both-none, not-faulty, all-none}
 use Rattle.tables.specs.TermTable.{termsFault, AcceptedTerms}
 use Rattle.tables.specs.PropositionTable.{propositionsFault, AcceptedPropositions}
 use Rattle.tables.specs.QuestionTable.{questionsFault, AcceptedQuestions}
@@ -109,3 +109,22 @@ accepted T e =
     let a = orElse-none _ _ e in
     let b = orElse-none _ _ (a .1) in
     record { terms = none-at _ _ (a .0); propositions = none-at _ _ (b .0); questions = none-at _ _ (b .1) }
+
+-- and back: tables that pass each test are not refused
+pub records-pass : (T : Tables) → Accepted T → recordsFault T ≡ none
+unfolding recordsFault termsFault propositionsFault questionsFault
+records-pass T a = both-none _ _ (all-none _ _ (a .terms)) (both-none _ _ (all-none _ _ (a .propositions)) (all-none _ _ (a .questions)))
+
+module _ (limit : ℕ) (T : Tables) where
+  pub sizes-pass : Sized limit T → sizesFault limit T ≡ none
+  unfolding lengthsFault
+  sizes-pass s =
+      both-none _ _ (not-faulty _ _ _ (le-ltb _ _ (s .few-terms)))
+      (both-none _ _ (not-faulty _ _ _ (le-ltb _ _ (s .few-propositions)))
+      (both-none _ _ (not-faulty _ _ _ (le-ltb _ _ (s .few-questions)))
+      (not-faulty _ _ _
+      (both-false _ _ (le-ltb _ _ (s .terms-long)) (both-false _ _ (le-ltb _ _ (s .propositions-long)) (le-ltb _ _ (s .questions-long)))))))
+
+  pub unrefused : Sized limit T → Accepted T → tablesFault limit T ≡ none
+  unfolding tablesFault
+  unrefused s a = both-none _ _ (sizes-pass s) (records-pass T a)

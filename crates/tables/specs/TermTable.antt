@@ -1,13 +1,15 @@
 -- A table of terms: n records, whatever holds them. Its faults, the terms it stands for, and the laws of an accepted one.
-use Prim.Native.Nat.{ℕ, _<_}
+use Prim.Native.Nat.{ℕ, _<_, _≤_}
 use mathlib.Core.Path.{_≡_, refl, sym, _∙_, ap}
-use mathlib.Core.Logic.{_≢_}
+use mathlib.Core.Logic.{_≢_, ⊎-elim}
 use mathlib.Core.Bool.{Bool, true, false, _&&_, _||_}
 use mathlib.Core.List.{List}
 use mathlib.Core.Option.{Option, none, some}
 use native.Mathlib.Omega.{arith}
 use lib.Dec.{eqb, leb}
 use lib.IntN.{ℤ}
+use mir.Syntax.{w32}
+use mir.Val.{SFits}
 use lib.ListN.{length, getD}
 use borrow.Author.Tests.{eq-eqb, leb-false}
 use Rattle.lists.specs.Items.{Item, item-below, item-getD, getD-item}
@@ -16,10 +18,11 @@ use Rattle.lists.specs.Tabulate.{tabulate, length-tabulate, from-zero, tabulate
 use Rattle.types.specs.declared.Refusal.{Refusal}
 use Rattle.types.specs.declared.Refusal.the-variants.{InnerNotListed, AtomListedTwice}
 use Rattle.rules.specs.Terms.{Term, variable, auxiliary, deref, DistinctVariables}
-use Rattle.labels.specs.Spread.{Within}
-use Rattle.tables.specs.Limits.{offsetLimit}
+use Rattle.labels.specs.Relabel.{same-or-not}
+use Rattle.integers.specs.Within.{Within}
+use Rattle.tables.specs.Limits.{atomLimit, offsetLimit}
 use Rattle.tables.specs.Records.{TermRecord, variableKind, derefKind, termOf, sameAtom, orDefault}
-use Rattle.tables.specs.Stands.{StandsFor, stands-for, deref-within, deref-by-kind, variable-by-kind}
+use Rattle.tables.specs.Stands.{StandsFor, stands-for, deref-within, deref-by-kind, variable-by-kind, kind-at-most}
 use Rattle.tables.specs.Refusals.{Fault, orElse, refuseIf, malformed, firstFault, termNameFault, termFault}
 use Rattle.tables.specs.RefusalLaws.{orElse-none, refuseIf-none, malformed-none}
 
@@ -99,6 +102,20 @@ module _ (n : ℕ) (rec : ℕ → TermRecord) (accepted : AcceptedTerms n rec) w
   offset-within k h e =
       let well = malformed-none (termOf (rec k)) (orElse-none _ _ (accepted k h) .0) in
       deref-within (rec k) (well .0) (well .1) e
+
+  -- bounds of a record's fields
+  pub term-kind-below : (k : ℕ) → k < n → rec k .kind ≤ derefKind
+  term-kind-below k h = let r = from-term k h in omega (arith, r .2 .kind, kind-at-most (r .0))
+
+  pub term-number-below : (k : ℕ) → k < n → n ≤ atomLimit → rec k .number < atomLimit
+  term-number-below k h few =
+      ⊎-elim
+      (λ (e : rec k .kind ≡ derefKind). omega (arith, inner-before k h e))
+      (λ (m : rec k .kind ≢ derefKind). from-term k h .2 .atom m)
+      (same-or-not (rec k .kind) derefKind)
+
+  pub term-offset-fits : (k : ℕ) → k < n → SFits w32 (rec k .offset)
+  term-offset-fits k h = from-term k h .2 .fits
 
   -- no atom is listed twice
   pub atoms-differ : (k j : ℕ) → k < n → j < k → sameAtom (rec k) (rec j) ≡ false

@@ -12,6 +12,7 @@ use types::TermRecord;
 ghost use mathlib.Core.Path.{_≡_};
 ghost use Prim.Native.Nat.{_<_};
 ghost use lib.ListN.{length};
+ghost use Rattle.lists.specs.Lent.{before};
 ghost use Rattle.tables.specs.Rows.{termAt, termRow, propositionAt, propositionRow, questionAt, questionRow};
 
 // kind, number, offset
@@ -25,7 +26,7 @@ pub type QuestionRow = [u64; 3];
 
 pub fn term_at(terms: &[TermRow], t: TermNumber) -> TermRecord
     requires { ⌜ t .0 < length (now terms) ⌝ }
-    ensures { λ r. ⌜ r ≡ termAt (now (terms .entry)) (t .0) ⌝ }
+    ensures { λ r. ⌜ r ≡ termAt (before terms) (t .0) ⌝ }
 {
     let k = t.0;
     TermRecord {
@@ -43,7 +44,7 @@ pub fn term_row(r: TermRecord) -> TermRow
 
 pub fn proposition_at(propositions: &[PropositionRow], p: PropositionNumber) -> PropositionRecord
     requires { ⌜ p .0 < length (now propositions) ⌝ }
-    ensures { λ r. ⌜ r ≡ propositionAt (now (propositions .entry)) (p .0) ⌝ }
+    ensures { λ r. ⌜ r ≡ propositionAt (before propositions) (p .0) ⌝ }
 {
     let k = p.0;
     PropositionRecord {
@@ -62,7 +63,7 @@ pub fn proposition_row(r: PropositionRecord) -> PropositionRow
 
 pub fn question_at(questions: &[QuestionRow], q: QuestionNumber) -> QuestionRecord
     requires { ⌜ q .0 < length (now questions) ⌝ }
-    ensures { λ r. ⌜ r ≡ questionAt (now (questions .entry)) (q .0) ⌝ }
+    ensures { λ r. ⌜ r ≡ questionAt (before questions) (q .0) ⌝ }
 {
     let k = q.0;
     QuestionRecord {

@@ -13,7 +13,7 @@ use Rattle.rules.specs.Terms.{Term, auxiliary, Proposition, block-disequality, 
 use Rattle.outcome.specs.Outcome.{Outcome, outcome}
 use Rattle.tables.specs.Records.{TermRecord, PropositionRecord, termOf, propositionOf}
 use Rattle.tables.specs.Refusals.{Fault}
-use Rattle.tables.specs.Call.{orDefault}
+use Rattle.tables.specs.Records.{orDefault}
 use Rattle.text.specs.Lines.{lf, hexOf, bytes, unsigned}
 use Rattle.text.specs.Reading.{Records, Reading, accepted, refused, reading}
 

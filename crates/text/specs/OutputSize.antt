@@ -15,7 +15,7 @@ use Rattle.outcome.specs.Lengths.{Lengths, outcome-lengths}
 use Rattle.tables.specs.Limits.{most}
 use Rattle.tables.specs.Records.{TermRecord, PropositionRecord, termOf, propositionOf}
 use Rattle.tables.specs.Refusals.{Fault}
-use Rattle.tables.specs.Call.{orDefault}
+use Rattle.tables.specs.Records.{orDefault}
 use Rattle.text.specs.Lines.{lf, hexOf, bytes, unsigned}
 use Rattle.text.specs.Reading.{Records, Reading, accepted, refused, reading}
 use Rattle.text.specs.Output.{lineOf, verdictFrame, labelFrame, labelFrames, blameFrame, blameIf, cellFrames, answerFrame, answerFrames, refusalFrame, middle, outcomeFrames, solved, readingFrames, output}

@@ -1,6 +1,6 @@
 // The types of the library's answers. specs/Numbers.antt gives the numbers of paper 01 for each case.
 ghost use mathlib.Core.Path.{_≡_};
-ghost use Rattle.types.specs.Numbers.{refusalNumber};
+ghost use Rattle.types.specs.Numbers.{answerNumber, refusalNumber};
 
 // The kinds of records, as in the lines of hexadecimal.
 pub const VARIABLE: u64 = 0x01;
@@ -19,6 +19,9 @@ pub const QUESTION: u64 = 0x21;
 
 // The most terms, propositions and questions.
 pub const MOST: usize = 512;
+
+// The bytes that hold the pair bits of the most terms.
+pub const PAIR_BYTES: usize = 32768;
 
 // Atoms are numbered below this.
 pub const ATOMS: u64 = 65536;
@@ -95,17 +98,11 @@ pub struct QuestionRecord {
     pub right: u64,
 }
 
-// What the tests of a call's tables and memory find: nothing, or the first refusal and its place.
-pub enum Checked {
-    Accepted,
-    Refused(Refusal, usize),
-}
-
-// What a call of the solver returns: the verdict, or the refusal and its place.
+// What a call of the solver returns: the verdict, or the fault of its tables or its lent memory.
 pub enum Solved {
     Satisfiable,
     Contradiction,
-    Refused(Refusal, usize),
+    Refused(Fault),
 }
 
 // A number in the table of terms.
@@ -117,11 +114,30 @@ pub struct PropositionNumber(pub usize);
 // A number in the table of questions.
 pub struct QuestionNumber(pub usize);
 
+// The number that a record names, as an index.
+pub fn index(number: u64) -> usize
+    ensures { λ r. ⌜ r ≡ number ⌝ }
+{
+    number as usize
+}
+
 // A refusal at a place.
 pub fn refuse(refusal: Refusal, place: usize) -> Acceptance
     ensures { λ a. ⌜ a ≡ Acceptance.Refused (record { refusal = refusal; place = place }) ⌝ }
 {
     Acceptance::Refused(Fault { refusal, place })
+}
+
+// The number of an answer.
+pub fn answer_number(a: Answer) -> u8
+    ensures { λ k. ⌜ k ≡ answerNumber a ⌝ }
+{
+    match a {
+        Answer::Neither => 0,
+        Answer::Equal => 1,
+        Answer::Different => 2,
+        Answer::Contradictory => 3,
+    }
 }
 
 // The number of a refusal.

@@ -10,7 +10,8 @@ use lib.ListN.{length, getD, List·getD-eq-default}
 use Rattle.integers.specs.Linear.{linear, value, ‹_›, #_, _⊕_}
 use Rattle.rules.specs.Assignments.{Placement, Holds}
 use Rattle.labels.specs.Relabel.{Rooted, same-or-not}
-use Rattle.labels.specs.Spread.{Within, far}
+use Rattle.integers.specs.Within.{Within}
+use Rattle.labels.specs.Spread.{far}
 use Rattle.labels.specs.Joins.{Joined}
 use Rattle.labels.specs.Steps.{Fresh}
 use Rattle.labels.specs.View.{view}
@@ -86,6 +87,7 @@ pub record Cleared (p0 : List ℕ) (o0 : List ℤ) (p : List ℕ) (o : List ℤ)
   pub links : Links p o
   pub long : length p ≡ length p0
   pub offsets-long : length o ≡ length o0
+  pub own : Fresh (length p) (view p o)
   pub fresh : Fresh (length p) (flat p o)
 
 -- P labels roots by themselves, and each other term by way of its link

@@ -13,7 +13,8 @@ use borrow.Author.Tests.{ltb-true, ltb-false}
 use Rattle.integers.specs.Linear.{linear, value, ‹_›, #_, _⊕_}
 use Rattle.rules.specs.Assignments.{Placement}
 use Rattle.labels.specs.Relabel.{same-or-not}
-use Rattle.labels.specs.Spread.{Within, far}
+use Rattle.integers.specs.Within.{Within}
+use Rattle.labels.specs.Spread.{far}
 use Rattle.labels.specs.View.{view}
 use Rattle.labels.specs.Clearing.{Clearing}
 use Rattle.unionfind.specs.declared.Root.{Root}
@@ -96,6 +97,7 @@ cleared {p0} {o0} {p} {o} {t} same few past C = record {
   links = links;
   long = C .long-reps;
   offsets-long = C .long-offs;
+  own = record { block = root; position = λ s h. C .fresh .position s (omega (arith, C .long-reps)) };
   fresh = record {
     block = λ s h. flat-follows links .root-block s (root s h);
     position = λ s h. flat-follows links .root-position s (root s h);

@@ -9,7 +9,8 @@ use lib.ListN.{length, getD, set, length-set}
 use Rattle.integers.specs.Linear.{linear, value, ‹_›, #_, _⊕_, _⊖_, ⊝_}
 use Rattle.rules.specs.Assignments.{Placement, Holds}
 use Rattle.labels.specs.Relabel.{Relabelled}
-use Rattle.labels.specs.Spread.{Within, far}
+use Rattle.integers.specs.Within.{Within}
+use Rattle.labels.specs.Spread.{far}
 use Rattle.labels.specs.Joins.{Joined, down, rise}
 use Rattle.unionfind.specs.declared.Root.{Root}
 use Rattle.unionfind.specs.declared.Joining.{Joining}

@@ -4,7 +4,7 @@
 
 use offsets::difference;
 use offsets::is_same;
-use offsets::negated;
+use offsets::opposite;
 use offsets::sum;
 use types::TermNumber;
 ghost use mathlib.Core.Path.{_≡_};
@@ -13,7 +13,8 @@ ghost use Prim.Native.Nat.{ℕ, _+_, _≤_, _<_};
 ghost use lib.IntN.{ℤ, _+ℤ_, _-ℤ_, pos};
 ghost use lib.ListN.{length, getD};
 ghost use Rattle.lists.specs.Lent.{before, after};
-ghost use Rattle.labels.specs.Spread.{Within, far};
+ghost use Rattle.integers.specs.Within.{Within};
+ghost use Rattle.labels.specs.Spread.{far};
 ghost use Rattle.unionfind.specs.Forest.{Links, Near, flat, Found, Equated, Flattened, Cleared};
 ghost use Rattle.unionfind.specs.Turns.{Halved};
 ghost use Rattle.unionfind.specs.Uniting.{Linking};
@@ -110,7 +111,7 @@ fn join_roots(parents: &mut [u32], offsets: &mut [i64], i: usize, d: i64, j: usi
         link(parents, offsets, i, d, j);
         return Joining::Joined;
     }
-    link(parents, offsets, j, negated(d), i);
+    link(parents, offsets, j, opposite(d), i);
     Joining::Joined
 }
 

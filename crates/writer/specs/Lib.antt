@@ -1,4 +1,3 @@
--- The bits of a signed number (Bits); bytes written to a buffer from a place on (Appended); laws of frames (Frames).
-pub mod Bits
+-- Bytes written to a buffer from a place on (Appended); laws of frames (Frames).
 pub mod Appended
 pub mod Frames

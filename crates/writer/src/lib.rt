@@ -1,12 +1,17 @@
 // Frames as lines of hexadecimal, written to a buffer from a place on; each function answers the place after what it wrote.
-// Public for the crate `output`, which knows that the frames fit.
-use types::Refusal;
+// Public for the crate `driver`, which knows that the frames fit.
+use offsets::bits;
+use types::Fault;
+use types::PropositionNumber;
+use types::QuestionNumber;
+use types::TermNumber;
 use types::refusal_number;
 ghost use mathlib.Core.Path.{_≡_};
 ghost use Prim.Native.Nat.{_+_, _/_, _%_, _^_, _≤_, _<_};
-ghost use lib.ListN.{length, take};
+ghost use lib.ListN.{length};
+ghost use Rattle.lists.specs.Lent.{before, after};
 ghost use Rattle.types.specs.declared.Verdict.the-variants.{Satisfiable, Contradiction};
-ghost use Rattle.text.specs.Lines.{digitOf, unsigned};
+ghost use Rattle.text.specs.Lines.{digitOf};
 ghost use Rattle.text.specs.Output.{lineOf, verdictFrame, labelFrame, labelFrames, blameIf, blameFrames, answerFrame, cellFrames, refusalFrame};
 ghost use Rattle.writer.specs.Frames.{cellFrame, setFrames};
 ghost use Rattle.writer.specs.Appended.{Appended};
@@ -27,21 +32,10 @@ fn byte_of(v: u64, k: u32) -> u8
     ((v >> (8 * k)) % 256) as u8
 }
 
-// A whole number in two's complement.
-fn bits_of(z: i64) -> u64
-    ensures { λ r. ⌜ r ≡ unsigned 64 z ⌝ }
-{
-    if z >= 0 {
-        z as u64
-    } else {
-        0xFFFF_FFFF_FFFF_FFFF - (-1 - z) as u64
-    }
-}
-
 // Writes a frame's bytes as a line.
 fn put_line(out: &mut [u8], at: usize, frame: &[u8]) -> usize
     requires { ⌜ at + length (lineOf (now frame)) ≤ length (now out) ⌝ }
-    ensures { λ r. ⌜ Appended (now (out .entry)) at (lineOf (now (frame .entry))) (now (out .exit)) r ⌝ }
+    ensures { λ r. ⌜ Appended (before out) at (lineOf (before frame)) (after out) r ⌝ }
 {
     let mut next = at;
     for k in 0..frame.len() {
@@ -56,7 +50,7 @@ fn put_line(out: &mut [u8], at: usize, frame: &[u8]) -> usize
 
 fn put_satisfiable(out: &mut [u8], at: usize) -> usize
     requires { ⌜ at + length (verdictFrame Satisfiable) ≤ length (now out) ⌝ }
-    ensures { λ r. ⌜ Appended (now (out .entry)) at (verdictFrame Satisfiable) (now (out .exit)) r ⌝ }
+    ensures { λ r. ⌜ Appended (before out) at (verdictFrame Satisfiable) (after out) r ⌝ }
 {
     let frame = [0xA0, 0];
     put_line(out, at, &frame)
@@ -64,20 +58,20 @@ fn put_satisfiable(out: &mut [u8], at: usize) -> usize
 
 fn put_contradiction(out: &mut [u8], at: usize) -> usize
     requires { ⌜ at + length (verdictFrame Contradiction) ≤ length (now out) ⌝ }
-    ensures { λ r. ⌜ Appended (now (out .entry)) at (verdictFrame Contradiction) (now (out .exit)) r ⌝ }
+    ensures { λ r. ⌜ Appended (before out) at (verdictFrame Contradiction) (after out) r ⌝ }
 {
     let frame = [0xA0, 1];
     put_line(out, at, &frame)
 }
 
 // A term's representative and offset.
-fn put_label(out: &mut [u8], at: usize, term: usize, representative: u32, offset: i64) -> usize
-    requires { ⌜ at + length (labelFrame term representative offset) ≤ length (now out) ⌝ }
-    ensures { λ r. ⌜ Appended (now (out .entry)) at (labelFrame term representative offset) (now (out .exit)) r ⌝ }
+fn put_label(out: &mut [u8], at: usize, term: TermNumber, representative: u32, offset: i64) -> usize
+    requires { ⌜ at + length (labelFrame (term .0) representative offset) ≤ length (now out) ⌝ }
+    ensures { λ r. ⌜ Appended (before out) at (labelFrame (term .0) representative offset) (after out) r ⌝ }
 {
-    let t = term as u64;
+    let t = term.0 as u64;
     let r = representative as u64;
-    let o = bits_of(offset);
+    let o = bits(offset);
     let frame = [
         0xA1,
         byte_of(t, 1),
@@ -96,114 +90,102 @@ fn put_label(out: &mut [u8], at: usize, term: usize, representative: u32, offset
     put_line(out, at, &frame)
 }
 
-// The representatives and offsets of n terms.
-fn put_labels(
-    out: &mut [u8],
-    at: usize,
-    n: usize,
-    representatives: &[u32],
-    offsets: &[i64],
-) -> usize
-    requires { ⌜ (n ≤ length (now representatives)) × (n ≤ length (now offsets)) ⌝ }
-    requires { ⌜ at + length (labelFrames 0 (take n (now representatives)) (take n (now offsets))) ≤ length (now out) ⌝ }
-    ensures { λ r. ⌜ Appended (now (out .entry)) at (labelFrames 0 (take n (now (representatives .entry))) (take n (now (offsets .entry)))) (now (out .exit)) r ⌝ }
+// The representatives and offsets of all terms.
+fn put_labels(out: &mut [u8], at: usize, representatives: &[u32], offsets: &[i64]) -> usize
+    requires { ⌜ length (now representatives) ≡ length (now offsets) ⌝ }
+    requires { ⌜ at + length (labelFrames 0 (now representatives) (now offsets)) ≤ length (now out) ⌝ }
+    ensures { λ r. ⌜ Appended (before out) at (labelFrames 0 (before representatives) (before offsets)) (after out) r ⌝ }
 {
     let mut next = at;
-    for t in 0..n {
-        next = put_label(out, next, t, representatives[t], offsets[t]);
+    for t in 0..representatives.len() {
+        next = put_label(out, next, TermNumber(t), representatives[t], offsets[t]);
     }
     next
 }
 
 // A proposition, if it is marked.
-fn put_blamed(out: &mut [u8], at: usize, proposition: usize, mark: u8) -> usize
-    requires { ⌜ at + length (blameIf proposition mark) ≤ length (now out) ⌝ }
-    ensures { λ r. ⌜ Appended (now (out .entry)) at (blameIf proposition mark) (now (out .exit)) r ⌝ }
+fn put_blamed(out: &mut [u8], at: usize, proposition: PropositionNumber, mark: u8) -> usize
+    requires { ⌜ at + length (blameIf (proposition .0) mark) ≤ length (now out) ⌝ }
+    ensures { λ r. ⌜ Appended (before out) at (blameIf (proposition .0) mark) (after out) r ⌝ }
 {
     if mark == 0 {
         return at;
     }
-    let p = proposition as u64;
+    let p = proposition.0 as u64;
     let frame = [0xA2, byte_of(p, 1), byte_of(p, 0)];
     put_line(out, at, &frame)
 }
 
 // The answer to a question.
-fn put_answer(out: &mut [u8], at: usize, question: usize, answer: u8) -> usize
-    requires { ⌜ at + length (answerFrame question answer) ≤ length (now out) ⌝ }
-    ensures { λ r. ⌜ Appended (now (out .entry)) at (answerFrame question answer) (now (out .exit)) r ⌝ }
+fn put_answer(out: &mut [u8], at: usize, question: QuestionNumber, answer: u8) -> usize
+    requires { ⌜ at + length (answerFrame (question .0) answer) ≤ length (now out) ⌝ }
+    ensures { λ r. ⌜ Appended (before out) at (answerFrame (question .0) answer) (after out) r ⌝ }
 {
-    let q = question as u64;
+    let q = question.0 as u64;
     let frame = [0xA3, byte_of(q, 1), byte_of(q, 0), answer];
     put_line(out, at, &frame)
 }
 
-// A mark, or the answer to a question.
+// The mark of a proposition, or the answer to a question.
 fn put_cell(out: &mut [u8], at: usize, blamed: bool, number: usize, cell: u8) -> usize
     requires { ⌜ at + length (cellFrame blamed number cell) ≤ length (now out) ⌝ }
-    ensures { λ r. ⌜ Appended (now (out .entry)) at (cellFrame blamed number cell) (now (out .exit)) r ⌝ }
+    ensures { λ r. ⌜ Appended (before out) at (cellFrame blamed number cell) (after out) r ⌝ }
 {
     if blamed {
-        put_blamed(out, at, number, cell)
+        put_blamed(out, at, PropositionNumber(number), cell)
     } else {
-        put_answer(out, at, number, cell)
+        put_answer(out, at, QuestionNumber(number), cell)
     }
 }
 
-// The first n marks, or answers.
-fn put_cells(out: &mut [u8], at: usize, blamed: bool, n: usize, cells: &[u8]) -> usize
-    requires { ⌜ n ≤ length (now cells) ⌝ }
-    requires { ⌜ at + length (cellFrames (cellFrame blamed) 0 (take n (now cells))) ≤ length (now out) ⌝ }
-    ensures { λ r. ⌜ Appended (now (out .entry)) at (cellFrames (cellFrame blamed) 0 (take n (now (cells .entry)))) (now (out .exit)) r ⌝ }
+// All marks, or answers.
+fn put_cells(out: &mut [u8], at: usize, blamed: bool, cells: &[u8]) -> usize
+    requires { ⌜ at + length (cellFrames (cellFrame blamed) 0 (now cells)) ≤ length (now out) ⌝ }
+    ensures { λ r. ⌜ Appended (before out) at (cellFrames (cellFrame blamed) 0 (before cells)) (after out) r ⌝ }
 {
     let mut next = at;
-    for k in 0..n {
+    for k in 0..cells.len() {
         next = put_cell(out, next, blamed, k, cells[k]);
     }
     next
 }
 
-// A refusal and its place.
-pub fn put_refusal(out: &mut [u8], at: usize, refusal: Refusal, place: usize) -> usize
-    requires { ⌜ at + length (refusalFrame (record { refusal = refusal; place = place })) ≤ length (now out) ⌝ }
-    ensures { λ r. ⌜ Appended (now (out .entry)) at (refusalFrame (record { refusal = refusal; place = place })) (now (out .exit)) r ⌝ }
+// The only frame of a refusal.
+pub fn put_refusal(out: &mut [u8], fault: Fault) -> usize
+    requires { ⌜ length (refusalFrame fault) ≤ length (now out) ⌝ }
+    ensures { λ r. ⌜ Appended (before out) 0 (refusalFrame fault) (after out) r ⌝ }
 {
-    let p = place as u64;
+    let refusal = fault.refusal;
+    let p = fault.place as u64;
     let frame = [0xA4, refusal_number(refusal), byte_of(p, 1), byte_of(p, 0)];
-    put_line(out, at, &frame)
+    put_line(out, 0, &frame)
 }
 
-// The frames of a satisfiable set: its verdict, n terms and q questions.
+// The frames of a satisfiable set: its verdict, its terms and its questions.
 pub fn put_satisfiable_set(
     out: &mut [u8],
-    n: usize,
     representatives: &[u32],
     offsets: &[i64],
-    q: usize,
     answers: &[u8],
 ) -> usize
-    requires { ⌜ (n ≤ length (now representatives)) × ((n ≤ length (now offsets)) × (q ≤ length (now answers))) ⌝ }
-    requires { ⌜ length (setFrames Satisfiable (labelFrames 0 (take n (now representatives)) (take n (now offsets))) (take q (now answers))) ≤ length (now out) ⌝ }
-    ensures { λ r. ⌜ Appended (now (out .entry)) 0 (setFrames Satisfiable (labelFrames 0 (take n (now (representatives .entry))) (take n (now (offsets .entry)))) (take q (now (answers .entry)))) (now (out .exit)) r ⌝ }
+    requires { ⌜ length (now representatives) ≡ length (now offsets) ⌝ }
+    requires { let labels = labelFrames 0 (now representatives) (now offsets) in
+        ⌜ length (setFrames Satisfiable labels (now answers)) ≤ length (now out) ⌝ }
+    ensures { λ r.
+        let labels = labelFrames 0 (before representatives) (before offsets) in
+        ⌜ Appended (before out) 0 (setFrames Satisfiable labels (before answers)) (after out) r ⌝ }
 {
     let labels = put_satisfiable(out, 0);
-    let questions = put_labels(out, labels, n, representatives, offsets);
-    put_cells(out, questions, false, q, answers)
+    let questions = put_labels(out, labels, representatives, offsets);
+    put_cells(out, questions, false, answers)
 }
 
-// The frames of a contradictory set: its verdict, those of m propositions that are marked, and q questions.
-pub fn put_contradictory_set(
-    out: &mut [u8],
-    m: usize,
-    marks: &[u8],
-    q: usize,
-    answers: &[u8],
-) -> usize
-    requires { ⌜ (m ≤ length (now marks)) × (q ≤ length (now answers)) ⌝ }
-    requires { ⌜ length (setFrames Contradiction (blameFrames (take m (now marks))) (take q (now answers))) ≤ length (now out) ⌝ }
-    ensures { λ r. ⌜ Appended (now (out .entry)) 0 (setFrames Contradiction (blameFrames (take m (now (marks .entry)))) (take q (now (answers .entry)))) (now (out .exit)) r ⌝ }
+// The frames of a contradictory set: its verdict, the propositions that are marked, and its questions.
+pub fn put_contradictory_set(out: &mut [u8], marks: &[u8], answers: &[u8]) -> usize
+    requires { ⌜ length (setFrames Contradiction (blameFrames (now marks)) (now answers)) ≤ length (now out) ⌝ }
+    ensures { λ r. ⌜ Appended (before out) 0 (setFrames Contradiction (blameFrames (before marks)) (before answers)) (after out) r ⌝ }
 {
     let blame = put_contradiction(out, 0);
-    let questions = put_cells(out, blame, true, m, marks);
-    put_cells(out, questions, false, q, answers)
+    let questions = put_cells(out, blame, true, marks);
+    put_cells(out, questions, false, answers)
 }

@@ -1,5 +1,7 @@
 //! The proved functions through their static library, and the sets and texts on which they are compared with the second solver.
 
+pub mod memory;
+pub mod odd;
 pub mod proved;
 pub mod sets;
 pub mod texts;

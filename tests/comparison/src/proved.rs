@@ -1,34 +1,20 @@
 //! The exported functions of the static library, as `include/bucketmonk.h` declares them.
 
 use second_solver::reader::Tables;
-use second_solver::tables::{Input, Lent, Outcome};
+use second_solver::tables::{Input, Lent, Outcome, Proposition, Question, Term};
 use std::ops::Range;
 
 extern "C" {
     fn bucketmonk_solve(
         n: usize,
-        kinds: *const u8,
-        kinds_length: usize,
-        numbers: *const u32,
-        numbers_length: usize,
-        zs: *const i32,
-        zs_length: usize,
+        terms: *const Term,
+        terms_length: usize,
         m: usize,
-        pkinds: *const u8,
-        pkinds_length: usize,
-        lefts: *const u32,
-        lefts_length: usize,
-        pzs: *const i32,
-        pzs_length: usize,
-        rights: *const u32,
-        rights_length: usize,
+        propositions: *const Proposition,
+        propositions_length: usize,
         q: usize,
-        qlefts: *const u32,
-        qlefts_length: usize,
-        qzs: *const i32,
-        qzs_length: usize,
-        qrights: *const u32,
-        qrights_length: usize,
+        questions: *const Question,
+        questions_length: usize,
         representatives: *mut u32,
         representatives_length: usize,
         offsets: *mut i64,
@@ -41,51 +27,27 @@ extern "C" {
         answers_length: usize,
     ) -> usize;
 
-    fn bucketmonk_output(text: *const u8, text_length: usize, out: *mut u8, out_length: usize) -> usize;
-
     fn bucketmonk_verdict(
         n: usize,
-        kinds: *const u8,
-        kinds_length: usize,
-        numbers: *const u32,
-        numbers_length: usize,
-        zs: *const i32,
-        zs_length: usize,
+        terms: *const Term,
+        terms_length: usize,
         m: usize,
-        pkinds: *const u8,
-        pkinds_length: usize,
-        lefts: *const u32,
-        lefts_length: usize,
-        pzs: *const i32,
-        pzs_length: usize,
-        rights: *const u32,
-        rights_length: usize,
+        propositions: *const Proposition,
+        propositions_length: usize,
     ) -> usize;
 
     fn bucketmonk_read(
         text: *const u8,
         text_length: usize,
-        kinds: *mut u8,
-        kinds_length: usize,
-        numbers: *mut u32,
-        numbers_length: usize,
-        zs: *mut i32,
-        zs_length: usize,
-        pkinds: *mut u8,
-        pkinds_length: usize,
-        lefts: *mut u32,
-        lefts_length: usize,
-        pzs: *mut i32,
-        pzs_length: usize,
-        rights: *mut u32,
-        rights_length: usize,
-        qlefts: *mut u32,
-        qlefts_length: usize,
-        qzs: *mut i32,
-        qzs_length: usize,
-        qrights: *mut u32,
-        qrights_length: usize,
+        terms: *mut Term,
+        terms_length: usize,
+        propositions: *mut Proposition,
+        propositions_length: usize,
+        questions: *mut Question,
+        questions_length: usize,
     ) -> usize;
+
+    fn bucketmonk_output(text: *const u8, text_length: usize, out: *mut u8, out_length: usize) -> usize;
 
     fn bucketmonk_faulty_line(
         text: *const u8,
@@ -111,28 +73,14 @@ pub fn solve(input: &Input, lent: &mut Lent) -> Outcome {
     let code = unsafe {
         bucketmonk_solve(
             input.n,
-            input.term_kind.as_ptr(),
-            input.term_kind.len(),
-            input.term_number.as_ptr(),
-            input.term_number.len(),
-            input.term_offset.as_ptr(),
-            input.term_offset.len(),
+            input.terms.as_ptr(),
+            input.terms.len(),
             input.m,
-            input.proposition_kind.as_ptr(),
-            input.proposition_kind.len(),
-            input.proposition_left.as_ptr(),
-            input.proposition_left.len(),
-            input.proposition_offset.as_ptr(),
-            input.proposition_offset.len(),
-            input.proposition_right.as_ptr(),
-            input.proposition_right.len(),
+            input.propositions.as_ptr(),
+            input.propositions.len(),
             input.q,
-            input.question_left.as_ptr(),
-            input.question_left.len(),
-            input.question_offset.as_ptr(),
-            input.question_offset.len(),
-            input.question_right.as_ptr(),
-            input.question_right.len(),
+            input.questions.as_ptr(),
+            input.questions.len(),
             lent.representatives.as_mut_ptr(),
             lent.representatives.len(),
             lent.offsets.as_mut_ptr(),
@@ -154,53 +102,41 @@ pub fn verdict(input: &Input) -> Outcome {
     let code = unsafe {
         bucketmonk_verdict(
             input.n,
-            input.term_kind.as_ptr(),
-            input.term_kind.len(),
-            input.term_number.as_ptr(),
-            input.term_number.len(),
-            input.term_offset.as_ptr(),
-            input.term_offset.len(),
+            input.terms.as_ptr(),
+            input.terms.len(),
             input.m,
-            input.proposition_kind.as_ptr(),
-            input.proposition_kind.len(),
-            input.proposition_left.as_ptr(),
-            input.proposition_left.len(),
-            input.proposition_offset.as_ptr(),
-            input.proposition_offset.len(),
-            input.proposition_right.as_ptr(),
-            input.proposition_right.len(),
+            input.propositions.as_ptr(),
+            input.propositions.len(),
         )
     };
     outcome(code)
 }
 
-/// Reads a text into the columns: the counts of terms, propositions and questions, or the number of the refusal and its frame.
-pub fn read(text: &[u8], tables: &mut Tables) -> Result<[usize; 3], (u8, usize)> {
-    // SAFETY: each pointer comes with the length of its slice, and the lent columns are exclusive.
+/// The tables that a text is read into.
+pub struct Room<'a> {
+    pub terms: &'a mut [Term],
+    pub propositions: &'a mut [Proposition],
+    pub questions: &'a mut [Question],
+}
+
+/// All of the tables as room.
+pub fn room(tables: &mut Tables) -> Room<'_> {
+    Room { terms: &mut tables.terms, propositions: &mut tables.propositions, questions: &mut tables.questions }
+}
+
+/// Reads a text into the tables: the counts of terms, propositions and questions, or the number of the refusal and its frame.
+pub fn read(text: &[u8], room: &mut Room) -> Result<[usize; 3], (u8, usize)> {
+    // SAFETY: each pointer comes with the length of its slice, and the lent tables are exclusive.
     let code = unsafe {
         bucketmonk_read(
             text.as_ptr(),
             text.len(),
-            tables.term_kind.as_mut_ptr(),
-            tables.term_kind.len(),
-            tables.term_number.as_mut_ptr(),
-            tables.term_number.len(),
-            tables.term_offset.as_mut_ptr(),
-            tables.term_offset.len(),
-            tables.proposition_kind.as_mut_ptr(),
-            tables.proposition_kind.len(),
-            tables.proposition_left.as_mut_ptr(),
-            tables.proposition_left.len(),
-            tables.proposition_offset.as_mut_ptr(),
-            tables.proposition_offset.len(),
-            tables.proposition_right.as_mut_ptr(),
-            tables.proposition_right.len(),
-            tables.question_left.as_mut_ptr(),
-            tables.question_left.len(),
-            tables.question_offset.as_mut_ptr(),
-            tables.question_offset.len(),
-            tables.question_right.as_mut_ptr(),
-            tables.question_right.len(),
+            room.terms.as_mut_ptr(),
+            room.terms.len(),
+            room.propositions.as_mut_ptr(),
+            room.propositions.len(),
+            room.questions.as_mut_ptr(),
+            room.questions.len(),
         )
     };
     match code >> 48 {
@@ -225,19 +161,4 @@ pub fn faulty_line(text: &[u8], room: [usize; 3]) -> Range<usize> {
     // SAFETY: the pointer comes with the length of its slice, and the lent number is exclusive.
     let length = unsafe { bucketmonk_faulty_line(text.as_ptr(), text.len(), room[0], room[1], room[2], &mut start) };
     start..start + length
-}
-
-/// The columns with zeros up to so many cells.
-pub fn padded(mut tables: Tables, cells: usize) -> Tables {
-    tables.term_kind.resize(cells, 0);
-    tables.term_number.resize(cells, 0);
-    tables.term_offset.resize(cells, 0);
-    tables.proposition_kind.resize(cells, 0);
-    tables.proposition_left.resize(cells, 0);
-    tables.proposition_offset.resize(cells, 0);
-    tables.proposition_right.resize(cells, 0);
-    tables.question_left.resize(cells, 0);
-    tables.question_offset.resize(cells, 0);
-    tables.question_right.resize(cells, 0);
-    tables
 }

@@ -1,6 +1,6 @@
 //! Random sets, whole and damaged, and full sets of several kinds.
 
-use second_solver::tables::{pair_bytes, Input};
+use second_solver::tables::{pair_bytes, Input, Proposition, Question, Term};
 use std::collections::HashMap;
 
 /// A generator of numbers with a fixed seed (xorshift).
@@ -32,83 +32,56 @@ impl Numbers {
     }
 }
 
-/// The columns of a set, and how many cells of each lent array are missing.
+/// The tables of a set, and how many cells of each lent array are missing.
 #[derive(Clone, Default, Debug)]
 pub struct Set {
     pub n: usize,
     pub m: usize,
     pub q: usize,
-    pub term_kind: Vec<u8>,
-    pub term_number: Vec<u32>,
-    pub term_offset: Vec<i32>,
-    pub proposition_kind: Vec<u8>,
-    pub proposition_left: Vec<u32>,
-    pub proposition_offset: Vec<i32>,
-    pub proposition_right: Vec<u32>,
-    pub question_left: Vec<u32>,
-    pub question_offset: Vec<i32>,
-    pub question_right: Vec<u32>,
+    pub terms: Vec<Term>,
+    pub propositions: Vec<Proposition>,
+    pub questions: Vec<Question>,
     pub missing: [usize; 5],
 }
 
 impl Set {
-    pub fn term(&mut self, kind: u8, number: usize, offset: i32) -> usize {
-        self.term_kind.push(kind);
-        self.term_number.push(number as u32);
-        self.term_offset.push(offset);
+    pub fn term(&mut self, kind: u64, number: usize, offset: i32) -> usize {
+        self.terms.push(Term { kind, number: number as u64, offset: offset.into() });
         self.n += 1;
         self.n - 1
     }
 
-    pub fn proposition(&mut self, kind: u8, left: usize, offset: i32, right: usize) {
-        self.proposition_kind.push(kind);
-        self.proposition_left.push(left as u32);
-        self.proposition_offset.push(offset);
-        self.proposition_right.push(right as u32);
+    pub fn proposition(&mut self, kind: u64, left: usize, offset: i32, right: usize) {
+        self.propositions.push(Proposition { kind, left: left as u64, offset: offset.into(), right: right as u64 });
         self.m += 1;
     }
 
     pub fn question(&mut self, left: usize, offset: i32, right: usize) {
-        self.question_left.push(left as u32);
-        self.question_offset.push(offset);
-        self.question_right.push(right as u32);
+        self.questions.push(Question { left: left as u64, offset: offset.into(), right: right as u64 });
         self.q += 1;
     }
 
     pub fn input(&self) -> Input<'_> {
-        Input {
-            n: self.n,
-            m: self.m,
-            q: self.q,
-            term_kind: &self.term_kind,
-            term_number: &self.term_number,
-            term_offset: &self.term_offset,
-            proposition_kind: &self.proposition_kind,
-            proposition_left: &self.proposition_left,
-            proposition_offset: &self.proposition_offset,
-            proposition_right: &self.proposition_right,
-            question_left: &self.question_left,
-            question_offset: &self.question_offset,
-            question_right: &self.question_right,
-        }
+        let (terms, propositions, questions) = (&self.terms, &self.propositions, &self.questions);
+        Input { n: self.n, m: self.m, q: self.q, terms, propositions, questions }
     }
 
-    /// The lines of the set, each with its LF.
+    /// The lines of the set, each with its LF. Offsets are in range.
     pub fn lines(&self) -> Vec<Vec<u8>> {
         let mut lines = Vec::new();
-        for k in 0..self.n {
-            let (kind, number, z) = (self.term_kind[k], self.term_number[k], self.term_offset[k]);
-            lines.push(if kind == 3 { format!("03{number:04X}{z:08X}\n") } else { format!("{kind:02X}{number:04X}\n") });
+        for Term { kind, number, offset } in &self.terms {
+            let z = *offset as i32;
+            lines.push(if *kind == 3 { format!("03{number:04X}{z:08X}\n") } else { format!("{kind:02X}{number:04X}\n") });
         }
-        for k in 0..self.m {
-            let (left, z, right) = (self.proposition_left[k], self.proposition_offset[k], self.proposition_right[k]);
-            lines.push(match self.proposition_kind[k] {
+        for Proposition { kind, left, offset, right } in &self.propositions {
+            let z = *offset as i32;
+            lines.push(match kind {
                 0x13 => format!("13{left:04X}{right:04X}\n"),
                 kind => format!("{kind:02X}{left:04X}{z:08X}{right:04X}\n"),
             });
         }
-        for k in 0..self.q {
-            let (left, z, right) = (self.question_left[k], self.question_offset[k], self.question_right[k]);
+        for Question { left, offset, right } in &self.questions {
+            let z = *offset as i32;
             lines.push(format!("21{left:04X}{z:08X}{right:04X}\n"));
         }
         lines.into_iter().map(String::into_bytes).collect()
@@ -119,13 +92,17 @@ impl Set {
         self.lines().concat()
     }
 
-    /// The cells that each lent array needs.
+    /// The cells that each lent array needs; where a count is refused, those of a lower count.
     pub fn needed(&self) -> [usize; 5] {
-        [self.n, self.n, self.m, pair_bytes(self.n.min(1024)), self.q]
+        let [n, m, q] = [self.n, self.m, self.q].map(|count| count.min(MOST));
+        [n, n, m, pair_bytes(n), q]
     }
 }
 
-fn kind_of_proposition(r: &mut Numbers) -> u8 {
+/// Most terms, propositions or questions for which memory is lent.
+pub const MOST: usize = 515;
+
+fn kind_of_proposition(r: &mut Numbers) -> u64 {
     [0x11, 0x11, 0x11, 0x12, 0x12, 0x13][r.below(6)]
 }
 
@@ -169,68 +146,63 @@ pub fn small(r: &mut Numbers) -> Set {
     set
 }
 
-fn cut<A>(r: &mut Numbers, column: &mut Vec<A>) {
+fn cut<A>(r: &mut Numbers, table: &mut Vec<A>) {
     if r.one_in(2) {
-        column.pop();
+        table.pop();
     } else {
-        column.clear();
+        table.clear();
     }
+}
+
+fn too_many(r: &mut Numbers) -> usize {
+    [513, 514, 515, 65_536, 1 << 32, usize::MAX][r.below(6)]
 }
 
 /// Damages a set in one place; some damages leave it acceptable.
 pub fn damage(r: &mut Numbers, set: &mut Set) {
-    match r.below(20) {
-        0 => set.n = 513 + r.below(3),
-        1 => set.m = 513 + r.below(3),
-        2 => set.q = 513 + r.below(3),
-        3 => cut(r, &mut set.term_kind),
-        4 => cut(r, &mut set.term_number),
-        5 => cut(r, &mut set.term_offset),
-        6 => cut(r, &mut set.proposition_kind),
-        7 => cut(r, &mut set.proposition_left),
-        8 => cut(r, &mut set.proposition_offset),
-        9 => cut(r, &mut set.proposition_right),
-        10 => cut(r, &mut set.question_left),
-        11 => cut(r, &mut set.question_offset),
-        12 => cut(r, &mut set.question_right),
-        13 => {
+    match r.below(13) {
+        0 => set.n = too_many(r),
+        1 => set.m = too_many(r),
+        2 => set.q = too_many(r),
+        3 => cut(r, &mut set.terms),
+        4 => cut(r, &mut set.propositions),
+        5 => cut(r, &mut set.questions),
+        6 => {
             let k = r.below(5);
             set.missing[k] = if r.one_in(2) { 1 } else { usize::MAX };
         }
-        14 if set.n > 0 => {
+        7 if set.n > 0 => {
             let k = r.below(set.n);
-            set.term_kind[k] = r.next() as u8 % 5;
+            set.terms[k].kind = r.next() % 5;
         }
-        15 if set.n > 0 => {
+        8 if set.n > 0 => {
             let k = r.below(set.n);
-            set.term_number[k] = if r.one_in(2) { r.below(set.n + 1) as u32 } else { 65_535 + r.below(2) as u32 };
+            set.terms[k].number = if r.one_in(2) { r.below(set.n + 1) } else { 65_535 + r.below(2) } as u64;
         }
-        16 if set.n > 0 => {
+        9 if set.n > 0 => {
             let k = r.below(set.n);
-            set.term_offset[k] = r.offset();
+            set.terms[k].offset = r.offset().into();
         }
-        17 if set.m > 0 => {
+        10 if set.m > 0 => {
             let k = r.below(set.m);
             match r.below(4) {
-                0 => set.proposition_kind[k] = 0x10 + r.below(5) as u8,
-                1 => set.proposition_left[k] = set.n as u32,
-                2 => set.proposition_right[k] = r.next() as u32,
-                _ => set.proposition_offset[k] = r.offset(),
+                0 => set.propositions[k].kind = 0x10 + r.below(5) as u64,
+                1 => set.propositions[k].left = set.n as u64,
+                2 => set.propositions[k].right = r.next(),
+                _ => set.propositions[k].offset = r.offset().into(),
             }
         }
-        18 if set.q > 0 => {
+        11 if set.q > 0 => {
             let k = r.below(set.q);
             if r.one_in(2) {
-                set.question_left[k] = set.n as u32;
+                set.questions[k].left = set.n as u64;
             } else {
-                set.question_right[k] = r.next() as u32;
+                set.questions[k].right = r.next();
             }
         }
         _ if set.n > 1 => {
             let (from, to) = (r.below(set.n), r.below(set.n));
-            set.term_kind[to] = set.term_kind[from];
-            set.term_number[to] = set.term_number[from];
-            set.term_offset[to] = set.term_offset[from];
+            set.terms[to] = set.terms[from];
         }
         _ => {}
     }

@@ -23,16 +23,15 @@ fn refused(bytes: Vec<u8>, number: u8, place: usize) -> Text {
 fn close_set(r: &mut Numbers) -> Set {
     const ATOMS: [usize; 6] = [0, 1, 255, 256, 65_534, 65_535];
     let mut set = Set::default();
-    let mut free: Vec<(u8, usize)> = ATOMS.iter().flat_map(|&number| [(1, number), (2, number), (2, number ^ 2)]).collect();
+    let mut free: Vec<(u64, usize)> = ATOMS.iter().flat_map(|&number| [(1, number), (2, number), (2, number ^ 2)]).collect();
     for _ in 0..1 + r.below(9) {
-        let dereferences: Vec<usize> = (0..set.n).filter(|&t| set.term_kind[t] == 3).collect();
+        let dereferences: Vec<usize> = (0..set.n).filter(|&t| set.terms[t].kind == 3).collect();
         if set.n == 0 || r.one_in(3) {
             let (kind, number) = free.swap_remove(r.below(free.len()));
             set.term(kind, number, 0);
         } else if !dereferences.is_empty() && r.one_in(3) {
-            let again = dereferences[r.below(dereferences.len())];
-            let (inner, z) = (set.term_number[again] as usize, set.term_offset[again]);
-            set.term(3, inner, z);
+            let again = set.terms[dereferences[r.below(dereferences.len())]];
+            set.term(3, again.number as usize, again.offset as i32);
         } else {
             let inner = if r.one_in(2) { set.n - 1 } else { r.below(set.n) };
             let z = if r.one_in(2) { 0 } else { r.offset() };
@@ -41,10 +40,8 @@ fn close_set(r: &mut Numbers) -> Set {
     }
     for _ in 0..r.below(7) {
         if set.m > 0 && r.one_in(4) {
-            let k = r.below(set.m);
-            let (left, right) = (set.proposition_left[k] as usize, set.proposition_right[k] as usize);
-            let (kind, z) = (set.proposition_kind[k], set.proposition_offset[k]);
-            set.proposition(kind, left, z, right);
+            let again = set.propositions[r.below(set.m)];
+            set.proposition(again.kind, again.left as usize, again.offset as i32, again.right as usize);
         } else {
             let kind = [0x11, 0x11, 0x12, 0x12, 0x12, 0x13][r.below(6)];
             let (left, right) = (r.below(set.n), r.below(set.n));
@@ -60,9 +57,8 @@ fn close_set(r: &mut Numbers) -> Set {
 fn questions_close(r: &mut Numbers, set: &mut Set) {
     for _ in 0..r.below(7) {
         if set.m > 0 && !r.one_in(3) {
-            let k = r.below(set.m);
-            let (left, right) = (set.proposition_left[k] as usize, set.proposition_right[k] as usize);
-            let z = set.proposition_offset[k];
+            let near = set.propositions[r.below(set.m)];
+            let (left, z, right) = (near.left as usize, near.offset as i32, near.right as usize);
             match r.below(3) {
                 0 => set.question(left, z, right),
                 1 => set.question(right, z.wrapping_neg(), left),

@@ -2,7 +2,7 @@
 //! its two sources. It is not proved; it is the partner against which the
 //! proved solver is compared.
 //!
-//! - `tables`: the solver on column tables and lent memory.
+//! - `tables`: the solver on tables of records and lent memory.
 //! - `reader`: the reader of the text form.
 //! - `program`: the output of the whole program for a text.
 //! - `brute`: a naive reference, used only by the tests of this package.

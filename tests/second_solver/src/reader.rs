@@ -1,45 +1,32 @@
 //! The reader of the text form.
 
 use crate::tables::{
-    Input, AUXILIARY, BLOCK_DISEQUALITY, DEREFERENCE, DISEQUALITY, EQUALITY, LIMIT, VARIABLE,
+    Input, Proposition, Question, Term, AUXILIARY, BLOCK_DISEQUALITY, DEREFERENCE, DISEQUALITY,
+    EQUALITY, LIMIT, VARIABLE,
 };
 use std::collections::HashSet;
 use std::ops::Range;
 
-const QUESTION: u8 = 0x21;
+const QUESTION: u64 = 0x21;
 
-/// The tables read from a text, as columns.
+/// The tables read from a text.
 #[derive(Clone, Debug, Default, PartialEq, Eq)]
 pub struct Tables {
-    pub term_kind: Vec<u8>,
-    pub term_number: Vec<u32>,
-    pub term_offset: Vec<i32>,
-    pub proposition_kind: Vec<u8>,
-    pub proposition_left: Vec<u32>,
-    pub proposition_offset: Vec<i32>,
-    pub proposition_right: Vec<u32>,
-    pub question_left: Vec<u32>,
-    pub question_offset: Vec<i32>,
-    pub question_right: Vec<u32>,
+    pub terms: Vec<Term>,
+    pub propositions: Vec<Proposition>,
+    pub questions: Vec<Question>,
 }
 
 impl Tables {
     /// The tables as input of the solver, with the counts read.
     pub fn input(&self) -> Input<'_> {
         Input {
-            n: self.term_kind.len(),
-            m: self.proposition_kind.len(),
-            q: self.question_left.len(),
-            term_kind: &self.term_kind,
-            term_number: &self.term_number,
-            term_offset: &self.term_offset,
-            proposition_kind: &self.proposition_kind,
-            proposition_left: &self.proposition_left,
-            proposition_offset: &self.proposition_offset,
-            proposition_right: &self.proposition_right,
-            question_left: &self.question_left,
-            question_offset: &self.question_offset,
-            question_right: &self.question_right,
+            n: self.terms.len(),
+            m: self.propositions.len(),
+            q: self.questions.len(),
+            terms: &self.terms,
+            propositions: &self.propositions,
+            questions: &self.questions,
         }
     }
 }
@@ -95,12 +82,12 @@ pub fn read(text: &[u8], room: [usize; 3]) -> Result<Tables, Refusal> {
 fn take(
     line: &[u8],
     tables: &mut Tables,
-    atoms: &mut HashSet<(u8, u32)>,
+    atoms: &mut HashSet<(u64, u64)>,
     group: &mut usize,
 ) -> Result<(), u8> {
     // 9: digits, kind and length.
     let bytes = decode(line).ok_or(9)?;
-    let kind = *bytes.first().ok_or(9)?;
+    let kind = u64::from(*bytes.first().ok_or(9)?);
     let (length, own_group) = match kind {
         VARIABLE | AUXILIARY => (3, 0),
         DEREFERENCE => (7, 0),
@@ -118,11 +105,11 @@ fn take(
     }
     *group = own_group;
     // 1 to 3: room in the table.
-    let n = tables.term_kind.len();
+    let n = tables.terms.len();
     let (number, count) = match own_group {
         0 => (1, n),
-        1 => (2, tables.proposition_kind.len()),
-        _ => (3, tables.question_left.len()),
+        1 => (2, tables.propositions.len()),
+        _ => (3, tables.questions.len()),
     };
     if count >= LIMIT {
         return Err(number);
@@ -134,17 +121,21 @@ fn take(
             if !atoms.insert((kind, first)) {
                 return Err(5);
             }
-            tables.term_kind.push(kind);
-            tables.term_number.push(first);
-            tables.term_offset.push(0);
+            tables.terms.push(Term {
+                kind,
+                number: first,
+                offset: 0,
+            });
         }
         DEREFERENCE => {
-            if first as usize >= n {
+            if first >= n as u64 {
                 return Err(4);
             }
-            tables.term_kind.push(kind);
-            tables.term_number.push(first);
-            tables.term_offset.push(offset_at(&bytes, 3));
+            tables.terms.push(Term {
+                kind,
+                number: first,
+                offset: offset_at(&bytes, 3),
+            });
         }
         _ => {
             let (offset, second) = if kind == BLOCK_DISEQUALITY {
@@ -152,18 +143,22 @@ fn take(
             } else {
                 (offset_at(&bytes, 3), number_at(&bytes, 7))
             };
-            if first as usize >= n || second as usize >= n {
+            if first >= n as u64 || second >= n as u64 {
                 return Err(if kind == QUESTION { 7 } else { 6 });
             }
             if kind == QUESTION {
-                tables.question_left.push(first);
-                tables.question_offset.push(offset);
-                tables.question_right.push(second);
+                tables.questions.push(Question {
+                    left: first,
+                    offset,
+                    right: second,
+                });
             } else {
-                tables.proposition_kind.push(kind);
-                tables.proposition_left.push(first);
-                tables.proposition_offset.push(offset);
-                tables.proposition_right.push(second);
+                tables.propositions.push(Proposition {
+                    kind,
+                    left: first,
+                    offset,
+                    right: second,
+                });
             }
         }
     }
@@ -187,10 +182,10 @@ fn decode(line: &[u8]) -> Option<Vec<u8>> {
         .collect()
 }
 
-fn number_at(bytes: &[u8], at: usize) -> u32 {
-    u32::from(bytes[at]) << 8 | u32::from(bytes[at + 1])
+fn number_at(bytes: &[u8], at: usize) -> u64 {
+    u64::from(bytes[at]) << 8 | u64::from(bytes[at + 1])
 }
 
-fn offset_at(bytes: &[u8], at: usize) -> i32 {
-    i32::from_be_bytes([bytes[at], bytes[at + 1], bytes[at + 2], bytes[at + 3]])
+fn offset_at(bytes: &[u8], at: usize) -> i64 {
+    i32::from_be_bytes([bytes[at], bytes[at + 1], bytes[at + 2], bytes[at + 3]]).into()
 }

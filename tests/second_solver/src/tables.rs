@@ -1,4 +1,4 @@
-//! The table level: column tables in, lent memory out.
+//! The table level: tables of records in, lent memory out.
 
 use std::collections::HashMap;
 use std::hash::{BuildHasherDefault, Hasher};
@@ -7,14 +7,14 @@ use std::hash::{BuildHasherDefault, Hasher};
 pub const LIMIT: usize = 512;
 
 /// Kinds of term records.
-pub const VARIABLE: u8 = 1;
-pub const AUXILIARY: u8 = 2;
-pub const DEREFERENCE: u8 = 3;
+pub const VARIABLE: u64 = 1;
+pub const AUXILIARY: u64 = 2;
+pub const DEREFERENCE: u64 = 3;
 
 /// Kinds of proposition records.
-pub const EQUALITY: u8 = 0x11;
-pub const DISEQUALITY: u8 = 0x12;
-pub const BLOCK_DISEQUALITY: u8 = 0x13;
+pub const EQUALITY: u64 = 0x11;
+pub const DISEQUALITY: u64 = 0x12;
+pub const BLOCK_DISEQUALITY: u64 = 0x13;
 
 /// Values of an answer byte.
 pub const NEITHER: u8 = 0;
@@ -22,8 +22,40 @@ pub const EQUAL: u8 = 1;
 pub const DIFFERENT: u8 = 2;
 pub const CONTRADICTORY: u8 = 3;
 
-/// The three input tables as columns. The counts are given apart from the
-/// columns, which may be longer than their count; a shorter one is refused.
+/// A record of the table of terms. The three records have their fields laid
+/// out as in C, for the comparison with a library for C.
+#[repr(C)]
+#[derive(Clone, Copy, Debug, Default, PartialEq, Eq)]
+pub struct Term {
+    pub kind: u64,
+    /// Atom number, or for a dereference the number of the term inside.
+    pub number: u64,
+    /// The z of a dereference; 0 for an atom.
+    pub offset: i64,
+}
+
+/// A record of the table of propositions.
+#[repr(C)]
+#[derive(Clone, Copy, Debug, Default, PartialEq, Eq)]
+pub struct Proposition {
+    pub kind: u64,
+    pub left: u64,
+    /// 0 for a block disequality.
+    pub offset: i64,
+    pub right: u64,
+}
+
+/// A record of the table of questions.
+#[repr(C)]
+#[derive(Clone, Copy, Debug, Default, PartialEq, Eq)]
+pub struct Question {
+    pub left: u64,
+    pub offset: i64,
+    pub right: u64,
+}
+
+/// The three input tables. The counts are given apart from the tables, which
+/// may be longer than their count; a shorter one is refused.
 #[derive(Clone, Copy, Debug)]
 pub struct Input<'a> {
     /// Number of terms.
@@ -32,19 +64,9 @@ pub struct Input<'a> {
     pub m: usize,
     /// Number of questions.
     pub q: usize,
-    pub term_kind: &'a [u8],
-    /// Atom number, or for a dereference the number of the term inside.
-    pub term_number: &'a [u32],
-    /// The z of a dereference; 0 for an atom.
-    pub term_offset: &'a [i32],
-    pub proposition_kind: &'a [u8],
-    pub proposition_left: &'a [u32],
-    /// 0 for a block disequality.
-    pub proposition_offset: &'a [i32],
-    pub proposition_right: &'a [u32],
-    pub question_left: &'a [u32],
-    pub question_offset: &'a [i32],
-    pub question_right: &'a [u32],
+    pub terms: &'a [Term],
+    pub propositions: &'a [Proposition],
+    pub questions: &'a [Question],
 }
 
 /// The lent memory. Slices may be longer than needed; cells beyond the needed
@@ -83,7 +105,7 @@ pub fn solve_without_blame(input: &Input, lent: &mut Lent) -> Outcome {
 /// The verdict alone. Refusals are those of `solve` where no memory is lent.
 pub fn verdict_only(input: &Input) -> Outcome {
     if let Some(refused) = check_counts(input)
-        .or_else(|| check_columns(input))
+        .or_else(|| check_tables(input))
         .or_else(|| check_records(input))
     {
         return refused;
@@ -98,7 +120,7 @@ pub fn verdict_only(input: &Input) -> Outcome {
 
 fn solve_with(input: &Input, lent: &mut Lent, blame: bool) -> Outcome {
     if let Some(refused) = check_counts(input)
-        .or_else(|| check_columns(input))
+        .or_else(|| check_tables(input))
         .or_else(|| check_lent(input, lent))
         .or_else(|| check_records(input))
     {
@@ -164,17 +186,10 @@ fn check_counts(input: &Input) -> Option<Outcome> {
     None
 }
 
-fn check_columns(input: &Input) -> Option<Outcome> {
-    let short = input.term_kind.len() < input.n
-        || input.term_number.len() < input.n
-        || input.term_offset.len() < input.n
-        || input.proposition_kind.len() < input.m
-        || input.proposition_left.len() < input.m
-        || input.proposition_offset.len() < input.m
-        || input.proposition_right.len() < input.m
-        || input.question_left.len() < input.q
-        || input.question_offset.len() < input.q
-        || input.question_right.len() < input.q;
+fn check_tables(input: &Input) -> Option<Outcome> {
+    let short = input.terms.len() < input.n
+        || input.propositions.len() < input.m
+        || input.questions.len() < input.q;
     if short {
         refused(8, 0)
     } else {
@@ -195,47 +210,56 @@ fn check_lent(input: &Input, lent: &Lent) -> Option<Outcome> {
     }
 }
 
+/// Whether an offset takes no more than the signed 32-bit range.
+fn in_range(offset: i64) -> bool {
+    (-2_147_483_648..=2_147_483_647).contains(&offset)
+}
+
 fn check_records(input: &Input) -> Option<Outcome> {
-    let n = input.n;
+    let n = input.n as u64;
     // Atoms listed so far, one bit per kind and number.
     let mut listed = vec![0u64; 2 * 65536 / 64];
-    for t in 0..n {
-        let number = input.term_number[t];
-        match input.term_kind[t] {
-            kind @ (VARIABLE | AUXILIARY) => {
-                if number > 65535 || input.term_offset[t] != 0 {
+    for (t, record) in input.terms[..input.n].iter().enumerate() {
+        match record.kind {
+            VARIABLE | AUXILIARY => {
+                if record.number > 65535 || record.offset != 0 {
                     return refused(9, t);
                 }
-                let bit = (kind - VARIABLE) as usize * 65536 + number as usize;
+                let bit = ((record.kind - VARIABLE) * 65536 + record.number) as usize;
                 if listed[bit / 64] >> (bit % 64) & 1 == 1 {
                     return refused(5, t);
                 }
                 listed[bit / 64] |= 1 << (bit % 64);
             }
             DEREFERENCE => {
-                if number as usize >= t {
+                if !in_range(record.offset) {
+                    return refused(9, t);
+                }
+                if record.number >= t as u64 {
                     return refused(4, t);
                 }
             }
             _ => return refused(9, t),
         }
     }
-    for p in 0..input.m {
-        match input.proposition_kind[p] {
-            EQUALITY | DISEQUALITY => {}
-            BLOCK_DISEQUALITY => {
-                if input.proposition_offset[p] != 0 {
-                    return refused(9, p);
-                }
-            }
-            _ => return refused(9, p),
+    for (p, record) in input.propositions[..input.m].iter().enumerate() {
+        let formed = match record.kind {
+            EQUALITY | DISEQUALITY => in_range(record.offset),
+            BLOCK_DISEQUALITY => record.offset == 0,
+            _ => false,
+        };
+        if !formed {
+            return refused(9, p);
         }
-        if input.proposition_left[p] as usize >= n || input.proposition_right[p] as usize >= n {
+        if record.left >= n || record.right >= n {
             return refused(6, p);
         }
     }
-    for k in 0..input.q {
-        if input.question_left[k] as usize >= n || input.question_right[k] as usize >= n {
+    for (k, record) in input.questions[..input.q].iter().enumerate() {
+        if !in_range(record.offset) {
+            return refused(9, k);
+        }
+        if record.left >= n || record.right >= n {
             return refused(7, k);
         }
     }
@@ -277,8 +301,9 @@ const NONE: u32 = u32::MAX;
 
 /// A term that is a dereference: the term inside and z.
 fn dereference(input: &Input, t: usize) -> Option<(usize, i64)> {
-    if input.term_kind[t] == DEREFERENCE {
-        Some((input.term_number[t] as usize, input.term_offset[t] as i64))
+    let record = &input.terms[t];
+    if record.kind == DEREFERENCE {
+        Some((record.number as usize, record.offset))
     } else {
         None
     }
@@ -429,23 +454,16 @@ impl Closure {
         if !self.drain(input) {
             return false;
         }
-        let side = |p: usize| {
-            (
-                input.proposition_left[p],
-                input.proposition_offset[p] as i64,
-                input.proposition_right[p],
-            )
-        };
-        for p in 0..input.m {
-            if kept[p] && input.proposition_kind[p] == EQUALITY {
-                let (t1, z, t2) = side(p);
-                if !self.add(input, t1, z, t2) {
+        for (record, &kept) in input.propositions.iter().zip(kept) {
+            if kept && record.kind == EQUALITY {
+                let (t1, t2) = (record.left as u32, record.right as u32);
+                if !self.add(input, t1, record.offset, t2) {
                     return false;
                 }
             }
         }
         for t in 0..input.n {
-            if input.term_kind[t] == VARIABLE {
+            if input.terms[t].kind == VARIABLE {
                 let class = self.root[t] as usize;
                 if self.has_variable[class] {
                     return false;
@@ -453,15 +471,14 @@ impl Closure {
                 self.has_variable[class] = true;
             }
         }
-        for p in 0..input.m {
-            if !kept[p] || input.proposition_kind[p] == EQUALITY {
+        for (record, &kept) in input.propositions.iter().zip(kept) {
+            if !kept || record.kind == EQUALITY {
                 continue;
             }
-            let (t1, z, t2) = side(p);
-            let (t1, t2) = (t1 as usize, t2 as usize);
+            let (t1, t2) = (record.left as usize, record.right as usize);
             if self.root[t1] == self.root[t2]
-                && (input.proposition_kind[p] == BLOCK_DISEQUALITY
-                    || self.offset[t1] - self.offset[t2] == z)
+                && (record.kind == BLOCK_DISEQUALITY
+                    || self.offset[t1] - self.offset[t2] == record.offset)
             {
                 return false;
             }
@@ -521,7 +538,7 @@ impl Classes {
         let mut relation = vec![0u8; count * count];
         let mut listed = Vec::new();
         let variables: Vec<usize> = (0..n)
-            .filter(|&t| input.term_kind[t] == VARIABLE)
+            .filter(|&t| input.terms[t].kind == VARIABLE)
             .map(|t| class[t])
             .collect();
         for &c1 in &variables {
@@ -531,12 +548,11 @@ impl Classes {
                 }
             }
         }
-        for p in 0..input.m {
-            let t1 = input.proposition_left[p] as usize;
-            let t2 = input.proposition_right[p] as usize;
+        for record in &input.propositions[..input.m] {
+            let (t1, t2) = (record.left as usize, record.right as usize);
             let forth = class[t1] * count + class[t2];
             let back = class[t2] * count + class[t1];
-            match input.proposition_kind[p] {
+            match record.kind {
                 BLOCK_DISEQUALITY => {
                     relation[forth] |= APART;
                     relation[back] |= APART;
@@ -544,7 +560,7 @@ impl Classes {
                 DISEQUALITY => {
                     // The representatives r1, r2 satisfy r1 ≠ z + r2 with the
                     // z below (the sign as the scope paper corrects it).
-                    let z = offset[t2] - offset[t1] + input.proposition_offset[p] as i64;
+                    let z = offset[t2] - offset[t1] + record.offset;
                     relation[forth] |= LISTED;
                     relation[back] |= LISTED;
                     listed.push((forth, z));
@@ -649,10 +665,8 @@ impl Classes {
     }
 
     fn answer(&self, input: &Input, pairs: &[bool], answers: &mut [u8]) {
-        for (k, answer) in answers.iter_mut().enumerate() {
-            let t1 = input.question_left[k] as usize;
-            let t2 = input.question_right[k] as usize;
-            let z = input.question_offset[k] as i64;
+        for (record, answer) in input.questions.iter().zip(answers) {
+            let (t1, z, t2) = (record.left as usize, record.offset, record.right as usize);
             *answer = if self.class[t1] == self.class[t2] && self.offset[t1] - self.offset[t2] == z
             {
                 EQUAL

@@ -2,7 +2,7 @@
 
 use second_solver::brute::{self, Proposition, Term};
 use second_solver::tables::{
-    pair_bytes, solve, solve_without_blame, verdict_only, Input, Lent, Outcome,
+    self, pair_bytes, solve, solve_without_blame, verdict_only, Input, Lent, Outcome, Question,
 };
 
 /// SplitMix64.
@@ -100,57 +100,74 @@ struct Left {
     answers: Vec<u8>,
 }
 
-fn columns_and_solve(set: &Set) -> Left {
+fn records_and_solve(set: &Set) -> Left {
     let (n, m, q) = (set.terms.len(), set.propositions.len(), set.questions.len());
-    let mut term_kind = Vec::new();
-    let mut term_number = Vec::new();
-    let mut term_offset = Vec::new();
-    for t in &set.terms {
-        let (kind, number, offset) = match *t {
-            Term::Variable(x) => (1, x, 0),
-            Term::Auxiliary(x) => (2, x, 0),
-            Term::Dereference { z, t } => (3, t as u32, z as i32),
-        };
-        term_kind.push(kind);
-        term_number.push(number);
-        term_offset.push(offset);
-    }
-    let mut proposition_kind = Vec::new();
-    let mut proposition_left = Vec::new();
-    let mut proposition_offset = Vec::new();
-    let mut proposition_right = Vec::new();
-    for p in &set.propositions {
-        let (kind, left, offset, right) = match *p {
-            Proposition::Equality(t1, z, t2) => (0x11, t1, z, t2),
-            Proposition::Disequality(t1, z, t2) => (0x12, t1, z, t2),
-            Proposition::BlockDisequality(t1, t2) => (0x13, t1, 0, t2),
-        };
-        proposition_kind.push(kind);
-        proposition_left.push(left as u32);
-        proposition_offset.push(offset as i32);
-        proposition_right.push(right as u32);
-    }
-    let question_left: Vec<u32> = set.questions.iter().map(|k| k.0 as u32).collect();
-    let question_offset: Vec<i32> = set.questions.iter().map(|k| k.1 as i32).collect();
-    let question_right: Vec<u32> = set.questions.iter().map(|k| k.2 as u32).collect();
-    // Columns longer than their counts hold records that would be refused.
-    term_kind.push(77);
-    term_number.push(u32::MAX);
-    proposition_kind.push(78);
+    let mut terms: Vec<tables::Term> = set
+        .terms
+        .iter()
+        .map(|t| {
+            let (kind, number, offset) = match *t {
+                Term::Variable(x) => (1, x.into(), 0),
+                Term::Auxiliary(x) => (2, x.into(), 0),
+                Term::Dereference { z, t } => (3, t as u64, z),
+            };
+            tables::Term {
+                kind,
+                number,
+                offset,
+            }
+        })
+        .collect();
+    let mut propositions: Vec<tables::Proposition> = set
+        .propositions
+        .iter()
+        .map(|p| {
+            let (kind, left, offset, right) = match *p {
+                Proposition::Equality(t1, z, t2) => (0x11, t1, z, t2),
+                Proposition::Disequality(t1, z, t2) => (0x12, t1, z, t2),
+                Proposition::BlockDisequality(t1, t2) => (0x13, t1, 0, t2),
+            };
+            tables::Proposition {
+                kind,
+                left: left as u64,
+                offset,
+                right: right as u64,
+            }
+        })
+        .collect();
+    let mut questions: Vec<Question> = set
+        .questions
+        .iter()
+        .map(|&(left, offset, right)| Question {
+            left: left as u64,
+            offset,
+            right: right as u64,
+        })
+        .collect();
+    // Tables longer than their counts hold records that would be refused.
+    terms.push(tables::Term {
+        kind: 77,
+        number: u64::MAX,
+        offset: 1,
+    });
+    propositions.push(tables::Proposition {
+        kind: 78,
+        left: 0,
+        offset: 0,
+        right: 0,
+    });
+    questions.push(Question {
+        left: u64::MAX,
+        offset: i64::MIN,
+        right: 0,
+    });
     let input = Input {
         n,
         m,
         q,
-        term_kind: &term_kind,
-        term_number: &term_number,
-        term_offset: &term_offset,
-        proposition_kind: &proposition_kind,
-        proposition_left: &proposition_left,
-        proposition_offset: &proposition_offset,
-        proposition_right: &proposition_right,
-        question_left: &question_left,
-        question_offset: &question_offset,
-        question_right: &question_right,
+        terms: &terms,
+        propositions: &propositions,
+        questions: &questions,
     };
     let bytes = pair_bytes(n);
     let mut representatives = vec![0xdead_beef_u32; n + 2];
@@ -209,7 +226,7 @@ struct Seen {
 
 fn compare(set: &Set, seen: &mut Seen) {
     let n = set.terms.len();
-    let left = columns_and_solve(set);
+    let left = records_and_solve(set);
     let want = brute::solve(&set.terms, &set.propositions, &set.questions);
     let about = || format!("{:?} {:?}", set.terms, set.propositions);
     assert_eq!(
@@ -388,7 +405,7 @@ fn answers_hold_in_assignments() {
     for _ in 0..400 {
         let set = draw(&mut random, &style);
         let n = set.terms.len();
-        let left = columns_and_solve(&set);
+        let left = records_and_solve(&set);
         for code in 0..(BLOCKS * POSITIONS).pow(n as u32) {
             let place = |t: usize| code / (BLOCKS * POSITIONS).pow(t as u32);
             let block: Vec<usize> = (0..n).map(|t| place(t) % BLOCKS).collect();

@@ -31,7 +31,7 @@ fn room_is_tested_first() {
 }
 
 #[test]
-fn columns() {
+fn records() {
     let tables = read(b"01FFFF\n02FFFF\n0300018000000\n", ROOM);
     assert_eq!(tables.unwrap_err().number, 9);
     let tables = read(
@@ -39,16 +39,27 @@ fn columns() {
         ROOM,
     )
     .unwrap();
-    assert_eq!(tables.term_kind, [1, 2, 3]);
-    assert_eq!(tables.term_number, [65535, 65535, 1]);
-    assert_eq!(tables.term_offset, [0, 0, i32::MIN]);
-    assert_eq!(tables.proposition_kind, [0x11, 0x13]);
-    assert_eq!(tables.proposition_left, [2, 1]);
-    assert_eq!(tables.proposition_offset, [i32::MAX, 0]);
-    assert_eq!(tables.proposition_right, [0, 2]);
-    assert_eq!(tables.question_left, [0]);
-    assert_eq!(tables.question_offset, [-1]);
-    assert_eq!(tables.question_right, [2]);
+    let terms: Vec<_> = tables
+        .terms
+        .iter()
+        .map(|r| (r.kind, r.number, r.offset))
+        .collect();
+    assert_eq!(
+        terms,
+        [(1, 65535, 0), (2, 65535, 0), (3, 1, -2_147_483_648)]
+    );
+    let propositions: Vec<_> = tables
+        .propositions
+        .iter()
+        .map(|r| (r.kind, r.left, r.offset, r.right))
+        .collect();
+    assert_eq!(propositions, [(0x11, 2, 2_147_483_647, 0), (0x13, 1, 0, 2)]);
+    let questions: Vec<_> = tables
+        .questions
+        .iter()
+        .map(|r| (r.left, r.offset, r.right))
+        .collect();
+    assert_eq!(questions, [(0, -1, 2)]);
 }
 
 #[test]

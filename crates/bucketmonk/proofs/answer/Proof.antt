@@ -2,7 +2,7 @@
 use mathlib.Core.Path.{sym}
 use native.Mathlib.Omega.{arith}
 use lib.Seq.{length-take-le}
-use Rattle.output.specs.Written.{written-within}
+use Rattle.driver.specs.Within.{output-within}
 use borrow.Author.Needs.{needs}
 use Rattle.bucketmonk.proofs.answer.Statement.{statement}
 use Rattle.bucketmonk.proofs.answer.Tie as tie
@@ -10,7 +10,7 @@ use Rattle.bucketmonk.proofs.answer.Reads as reads
 use Rattle.bucketmonk.proofs.answer.Lts as lts
 use Rattle.io.proofs.write_all.Reads as write-all-reads
 use Rattle.os.proofs.fail.Reads as fail-reads
-use Rattle.output.proofs.write_output.Reads as write-output-reads
+use Rattle.driver.proofs.write_output.Reads as write-output-reads
 
 -- src/main.rt:38:32
 slice-aggregate-write-output : tie.Need-slice-aggregate-write-output
@@ -22,11 +22,11 @@ write-output-requires c κs = search needs
 
 -- src/main.rt:39:44
 array-share-prefix-out : tie.Need-array-share-prefix-out
-array-share-prefix-out c = omega (arith, c .before .write-output .ensures .0, written-within (c .before .before .before .before .args .text .now) 18437, c .before .write-output .kept .1 .0)
+array-share-prefix-out c = omega (arith, c .before .write-output .ensures .0, output-within (c .before .before .before .before .args .text .now) 18437, c .before .write-output .kept .1 .0)
 
 -- src/main.rt:39:44
 slice-aggregate-write-all : tie.Need-slice-aggregate-write-all
-slice-aggregate-write-all c = sym (length-take-le _ _ (omega (arith, c .before .before .write-output .ensures .0, written-within (c .before .before .before .before .before .args .text .now) 18437, c .before .before .write-output .kept .1 .0)))
+slice-aggregate-write-all c = sym (length-take-le _ _ (omega (arith, c .before .before .write-output .ensures .0, output-within (c .before .before .before .before .before .args .text .now) 18437, c .before .before .write-output .kept .1 .0)))
 
 -- src/main.rt:39:9
 write-all-requires : tie.Need-write-all-requires

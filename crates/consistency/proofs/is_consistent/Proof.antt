@@ -1,7 +1,7 @@
 use mathlib.Core.Path.{_≡_, sym, _∙_}
 use borrow.Author.Tests.{not-true, not-false}
 use Rattle.tables.specs.Sets.{setOf}
-use Rattle.consistency.specs.Settling.{closing-columns}
+use Rattle.congruence.specs.Settling.{closing-columns}
 use Rattle.consistency.specs.Live.{fresh-live, live-labels, equalities-live, equalities-off}
 use Rattle.consistency.specs.Deciding.{contradictory, closing-on, closing-off, refuted-fails, decided}
 use borrow.Author.Needs.{needs}

@@ -5,7 +5,8 @@ use mir.Syntax.{w64}
 use mir.ValLaws.{toZ-ofZ}
 use borrow.Author.Needs.{needs, sfits-of}
 use Rattle.tables.specs.Records.{TermRecord}
-use Rattle.offsets.specs.Fits.{within-sum, within-fits}
+use Rattle.integers.specs.Within.{within-sum}
+use Rattle.offsets.specs.Fits.{within-fits}
 use Rattle.lastlook.specs.Addresses.{inner-below, offset-limited, inner-near}
 use Rattle.lastlook.proofs.address_of.Statement.{statement}
 use Rattle.lastlook.proofs.address_of.Tie as tie
@@ -13,35 +14,35 @@ use Rattle.lastlook.proofs.address_of.Tie as tie
 term-at-requires : tie.Need-term-at-requires
 term-at-requires c κs = search needs
 
-index-of-requires : tie.Need-index-of-requires
-index-of-requires c κs = search needs
+index-requires : tie.Need-index-requires
+index-requires c κs = search needs
 
 mul-sum : tie.Need-mul-sum
 mul-sum c =
     let s = c .before .before .before in
     let inner = inner-below (s .pre .0) (s .pre .1 .0) (s .pre .1 .1) in
-    let e = c .index-of .ensures ∙ ap (λ (r : TermRecord). r .number) (c .before .term-at .ensures) in
+    let e = c .index .ensures ∙ ap (λ (r : TermRecord). r .number) (c .before .term-at .ensures) in
     omega (arith, inner, s .pre .0 .offs-length)
 
 shared-slice-copy-out-sum : tie.Need-shared-slice-copy-out-sum
 shared-slice-copy-out-sum c =
     let s = c .before .before .before in
     let inner = inner-below (s .pre .0) (s .pre .1 .0) (s .pre .1 .1) in
-    let e = c .index-of .ensures ∙ ap (λ (r : TermRecord). r .number) (c .before .term-at .ensures) in
+    let e = c .index .ensures ∙ ap (λ (r : TermRecord). r .number) (c .before .term-at .ensures) in
     omega (arith, inner, s .pre .0 .offs-length)
 
 sum-requires : tie.Need-sum-requires
 sum-requires c κs =
     let s = c .before .before .before .before .before in
     let record-is = c .before .before .before .term-at .ensures in
-    let e = c .before .before .index-of .ensures ∙ ap (λ (r : TermRecord). r .number) (c .before .before .before .term-at .ensures) in
+    let e = c .before .before .index .ensures ∙ ap (λ (r : TermRecord). r .number) (c .before .before .before .term-at .ensures) in
     let o = ap (λ (r : TermRecord). r .offset) record-is in
     rw (toZ-ofZ w64 (c .before .before .before .term-at .result .offset) (sfits-of (c .struct-told .given .1 .1 .0 .1)), toZ-ofZ w64 _ (sfits-of (c .before .sum-arg .given)), o, e)
     (within-fits (omega arith) (within-sum (offset-limited (s .pre .0) (s .pre .1 .0) (s .pre .1 .1)) (inner-near (s .pre .0) (s .pre .1 .0) (s .pre .1 .1))))
 
 returns : tie.Need-returns
 returns c =
-    let e = c .before .before .before .index-of .ensures ∙ ap (λ (r : TermRecord). r .number) (c .before .before .before .before .term-at .ensures) in
+    let e = c .before .before .before .index .ensures ∙ ap (λ (r : TermRecord). r .number) (c .before .before .before .before .term-at .ensures) in
     let o = ap (λ (r : TermRecord). r .offset) (c .before .before .before .before .term-at .ensures) in
     rw (toZ-ofZ w64 (c .sum .result) (sfits-of (c .sum .ok)))
     (rw (toZ-ofZ w64 (c .before .before .before .before .term-at .result .offset) (sfits-of (c .before .struct-told .given .1 .1 .0 .1)), toZ-ofZ w64 _ (sfits-of (c .before .before .sum-arg .given)), o, e) at (c .sum .ensures))
@@ -51,7 +52,7 @@ address-of-spec =
     tie.close
     (tie.spec
     term-at-requires
-    index-of-requires
+    index-requires
     mul-sum
     shared-slice-copy-out-sum
     sum-requires

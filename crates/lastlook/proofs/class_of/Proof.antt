@@ -9,19 +9,19 @@ use Rattle.lastlook.proofs.class_of.Tie as tie
 term-at-requires : tie.Need-term-at-requires
 term-at-requires c κs = search needs
 
-index-of-requires : tie.Need-index-of-requires
-index-of-requires c κs = search needs
+index-requires : tie.Need-index-requires
+index-requires c κs = search needs
 
 mul-result : tie.Need-mul-result
-mul-result c = let e = c .index-of .ensures ∙ ap (λ (r : TermRecord). r .number) (c .before .term-at .ensures) in omega arith
+mul-result c = let e = c .index .ensures ∙ ap (λ (r : TermRecord). r .number) (c .before .term-at .ensures) in omega arith
 
 shared-slice-read-result : tie.Need-shared-slice-read-result
-shared-slice-read-result c = let e = c .before .index-of .ensures ∙ ap (λ (r : TermRecord). r .number) (c .before .before .term-at .ensures) in omega arith
+shared-slice-read-result c = let e = c .before .index .ensures ∙ ap (λ (r : TermRecord). r .number) (c .before .before .term-at .ensures) in omega arith
 
 returns : tie.Need-returns
-returns c = let e = c .before .index-of .ensures ∙ ap (λ (r : TermRecord). r .number) (c .before .before .term-at .ensures) in rw e
+returns c = let e = c .before .index .ensures ∙ ap (λ (r : TermRecord). r .number) (c .before .before .term-at .ensures) in rw e
 
 pub class-of-spec : {M : Type 1} → statement M
 class-of-spec =
     tie.close
-    (tie.spec term-at-requires index-of-requires mul-result shared-slice-read-result returns)
+    (tie.spec term-at-requires index-requires mul-result shared-slice-read-result returns)

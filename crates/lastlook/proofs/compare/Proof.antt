@@ -15,11 +15,11 @@ returns c = right (record { rises = omega arith; agrees = λ e. absurd (omega ar
 returns-2 : tie.Need-returns-2
 returns-2 c = wrong
 
-index-of-requires : tie.Need-index-of-requires
-index-of-requires c κs = search needs
+index-requires : tie.Need-index-requires
+index-requires c κs = search needs
 
-index-of-requires-2 : tie.Need-index-of-requires-2
-index-of-requires-2 c κs = search needs
+index-requires-2 : tie.Need-index-requires-2
+index-requires-2 c κs = search needs
 
 returns-3 : tie.Need-returns-3
 returns-3 c = wrong
@@ -32,8 +32,8 @@ same-label-requires c κs = search needs
 
 returns-5 : tie.Need-returns-5
 returns-5 c =
-    let h = holds-true _ (comparison (c .before .before .before .before .before .index-of .result) (pos 0) (c .before .before .before .before .index-of2 .result)) (sym (c .before .same-label .ensures) ∙ c .if5 .taken) in
-    right (record { rises = omega (arith, c .before .before .before .before .before .before .before .if1 .left, c .before .before .before .before .before .before .if2 .left); agrees = λ e. rw (c .before .before .before .before .before .index-of .ensures, c .before .before .before .before .index-of2 .ensures) at h })
+    let h = holds-true _ (comparison (c .before .before .before .before .before .index .result) (pos 0) (c .before .before .before .before .index2 .result)) (sym (c .before .same-label .ensures) ∙ c .if5 .taken) in
+    right (record { rises = omega (arith, c .before .before .before .before .before .before .before .if1 .left, c .before .before .before .before .before .before .if2 .left); agrees = λ e. rw (c .before .before .before .before .before .index .ensures, c .before .before .before .before .index2 .ensures) at h })
 
 is-unequal-requires : tie.Need-is-unequal-requires
 is-unequal-requires c κs = search needs
@@ -50,8 +50,8 @@ compare-spec =
     (tie.spec
     returns
     returns-2
-    index-of-requires
-    index-of-requires-2
+    index-requires
+    index-requires-2
     returns-3
     returns-4
     same-label-requires

@@ -13,14 +13,14 @@ abbrev μ-loop : tie.MeasureT-loop
 loop-holds : tie.Need-loop-holds Inv-loop μ-loop
 loop-holds c = omega arith
 
-mul-index-of : tie.Need-mul-index-of Inv-loop μ-loop
-mul-index-of c = omega arith
+mul-index : tie.Need-mul-index Inv-loop μ-loop
+mul-index c = omega arith
 
-element-copy-out-index-of : tie.Need-element-copy-out-index-of Inv-loop μ-loop
-element-copy-out-index-of c = omega arith
+element-copy-out-index : tie.Need-element-copy-out-index Inv-loop μ-loop
+element-copy-out-index c = omega arith
 
-index-of-requires : tie.Need-index-of-requires Inv-loop μ-loop
-index-of-requires c κs = tt
+index-requires : tie.Need-index-requires Inv-loop μ-loop
+index-requires c κs = tt
 
 mul-places : tie.Need-mul-places Inv-loop μ-loop
 mul-places c = omega arith
@@ -47,9 +47,9 @@ note-places-spec =
     Inv-loop
     μ-loop
     loop-holds
-    mul-index-of
-    element-copy-out-index-of
-    index-of-requires
+    mul-index
+    element-copy-out-index
+    index-requires
     mul-places
     element-write-places
     add-i

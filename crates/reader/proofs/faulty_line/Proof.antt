@@ -26,7 +26,7 @@ returns : tie.Need-returns
 returns c =
     let p = c .before .before .faulty-part in
     let size : p .result .start + p .result .size - p .result .start ≡ p .result .size = omega arith in
-    handed-back _ _ _ (p .result .start) (p .result .size) (p .ensures) refl (rw size)
+    handed-back _ _ _ (p .result) (p .ensures) refl (rw size)
 
 pub faulty-line-spec : {M : Type 1} → statement M
 faulty-line-spec =

@@ -1,85 +1,52 @@
--- `solver::blame_marks` meets its contract.
+-- One more proposition is tried in each turn.
 use Prim.Native.Nat.{suc, _-_}
-use mathlib.Core.Path.{_≡_, refl, sym, _∙_, ap}
+use mathlib.Core.Path.{_≡_, _∙_}
 use native.Mathlib.Omega.{arith}
-use Rattle.tables.specs.Call.{setOf}
+use Rattle.tables.specs.Sets.{setOf}
 use Rattle.solver.specs.Blaming.{Turn, trying-start, trying-next, trying-end}
 use Rattle.solver.proofs.blame_marks.Statement.{statement}
 use Rattle.solver.proofs.blame_marks.Tie as tie
-use Rattle.solver.proofs.blame_marks.Reads as reads
-use Rattle.solver.proofs.blame_marks.Lts as lts
-use Rattle.solver.proofs.try_drop.Reads as try-drop-reads
 
 abbrev Inv-loop : tie.InvT-loop
-Inv-loop n kinds numbers zs m pkinds lefts pzs rights marks₀ reps₀ offs₀ partners₀ k₀ marks reps offs partners k =
-    Turn (setOf n kinds numbers zs m pkinds lefts pzs rights) marks₀ reps₀ offs₀ partners₀ marks reps offs partners k
+Inv-loop terms propositions marks₀ reps₀ offs₀ k₀ marks reps offs k = Turn (setOf terms propositions) marks reps offs k
 
 abbrev μ-loop : tie.MeasureT-loop
-μ-loop n kinds numbers zs m pkinds lefts pzs rights marks₀ reps₀ offs₀ partners₀ k₀ marks reps offs partners k =
-    k
+μ-loop terms propositions marks₀ reps₀ offs₀ k₀ marks reps offs k = k
 
--- src/lib.rt:72:5
 loop-holds : tie.Need-loop-holds Inv-loop μ-loop
-loop-holds c = let s = c .before .before .before .before .before .before .before .before in record { trying = trying-start _ (s .pre .0) (s .args .marks .now) (s .pre .1 .1 .1); reps-same = refl; offs-same = refl; partners-same = refl }
+loop-holds c =
+    let s = c .before .before in
+    let l = s .pre .0 in
+    record { trying = trying-start _ (s .args .marks .now) (l .marks-count) (s .pre .1); reps-count = l .reps-count; offs-count = l .offs-count }
 
--- src/lib.rt:73:9
-sub-k : tie.Need-sub-k Inv-loop μ-loop
-sub-k c = omega arith
-
--- src/lib.rt:74:9
 try-drop-requires : tie.Need-try-drop-requires Inv-loop μ-loop
 try-drop-requires c κs =
-    let s = c .before .before .before .before .before .before .before .before .before .before .before .before .before .before in
-    let l = c .before .before .before .before .before in
-    let i = l .loop .inv in (
-      s .pre .0,
-      (
-        (rw (i .reps-same) (s .pre .1 .0 .0), (rw (i .offs-same) (s .pre .1 .0 .1 .0), rw (i .partners-same) (s .pre .1 .0 .1 .1))),
-        (rw (i .trying .long) (s .pre .1 .1 .0), (omega (arith, i .trying .within, c .before .before .before .before .loop-test .taken), i .trying .ones (l .loop .k - 1) (omega (arith, c .before .before .before .before .loop-test .taken)))),
-      ),
+    let l = c .before .before .before .before in
+    let s = l .before .before .before in
+    let i = l .loop .inv in
+    let h = c .before .before .before .loop-test .taken in (
+      record { good = s .pre .0 .good; marks-count = i .trying .count; reps-count = i .reps-count; offs-count = i .offs-count },
+      (omega (arith, i .trying .within, h), i .trying .ones (l .loop .k - 1) (omega (arith, h))),
     )
 
--- src/lib.rt:72:5
-loop-less : tie.Need-loop-less Inv-loop μ-loop
-loop-less c = omega (arith, c .before .before .before .before .before .before .before .before .before .before .before .before .loop-test .taken)
-
--- src/lib.rt:72:5
 loop-again : tie.Need-loop-again Inv-loop μ-loop
 loop-again c =
-    let s = c .before .before .before .before .before .before .before .before .before .before .before .before .before .before .before .before .before .before .before .before .before .before in
-    let l = c .before .before .before .before .before .before .before .before .before .before .before .before .before in
+    let t = c .before .before .before .before .before in
+    let h = t .before .before .before .before .loop-test .taken in
+    let l = t .before .before .before .before .before in
     let i = l .loop .inv in
-    let e : l .loop .k ≡ suc (l .loop .k - 1) = omega (arith, c .before .before .before .before .before .before .before .before .before .before .before .before .loop-test .taken) in
+    let e : l .loop .k ≡ suc (l .loop .k - 1) = omega (arith, h) in
     record {
-      trying = rw (c .before .before .before .before .before .before .before .try-drop .ensures) (trying-next _ (s .pre .0) (s .args .marks .now) (l .loop .marks) (l .loop .k - 1) (rw e at (i .trying)) (rw (i .trying .long) (s .pre .1 .1 .0)));
-      reps-same = c .before .before .before .before .before .before .before .try-drop .kept .1 .1 .1 .1 .1 .1 .1 .1 .1 .1 .0 ∙ i .reps-same;
-      offs-same = c .before .before .before .before .before .before .before .try-drop .kept .1 .1 .1 .1 .1 .1 .1 .1 .1 .1 .1 .0 ∙ i .offs-same;
-      partners-same = c .before .before .before .before .before .before .before .try-drop .kept .1 .1 .1 .1 .1 .1 .1 .1 .1 .1 .1 .1 .0 ∙ i .partners-same;
+      trying = rw (t .try-drop .ensures) (trying-next _ (l .loop .marks) (l .loop .k - 1) (rw e at (i .trying)));
+      reps-count = t .try-drop .kept .1 .1 .1 .0 ∙ i .reps-count;
+      offs-count = t .try-drop .kept .1 .1 .1 .1 .0 ∙ i .offs-count;
     }
 
--- src/lib.rt:65:1
-same-length : tie.Need-same-length Inv-loop μ-loop
-same-length c = c .before .loop .inv .trying .long
-
--- src/lib.rt:65:1
-same-length-2 : tie.Need-same-length-2 Inv-loop μ-loop
-same-length-2 c = c .before .loop .inv .reps-same
-
--- src/lib.rt:65:1
-same-length-3 : tie.Need-same-length-3 Inv-loop μ-loop
-same-length-3 c = c .before .loop .inv .offs-same
-
--- src/lib.rt:65:1
-same-length-4 : tie.Need-same-length-4 Inv-loop μ-loop
-same-length-4 c = c .before .loop .inv .partners-same
-
--- src/lib.rt:65:1
 returns : tie.Need-returns Inv-loop μ-loop
 returns c =
-    let s = c .before .before .before .before .before .before .before .before .before .before in
     let l = c .before in
     let e : l .loop .k ≡ 0 = omega (arith, c .loop-test .left) in
-    trying-end _ (s .pre .0) (s .args .marks .now) (l .loop .marks) (s .pre .1 .1 .0) (rw e at (l .loop .inv .trying))
+    trying-end _ (l .loop .marks) (rw e at (l .loop .inv .trying))
 
 pub blame-marks-spec : {M : Type 1} → statement M
 blame-marks-spec =
@@ -88,12 +55,11 @@ blame-marks-spec =
     Inv-loop
     μ-loop
     loop-holds
-    sub-k
+    (λ c. omega arith)
     try-drop-requires
-    loop-less
+    (λ c. omega (arith, c .before .before .before .before .before .before .before .before .before .loop-test .taken))
     loop-again
-    same-length
-    same-length-2
-    same-length-3
-    same-length-4
+    (λ c. omega (arith, c .before .loop .inv .trying .count))
+    (λ c. omega (arith, c .before .loop .inv .reps-count))
+    (λ c. omega (arith, c .before .loop .inv .offs-count))
     returns)

@@ -1,73 +1,184 @@
--- `solver::solve` meets its contract.
+-- `solver::solve` meets its contract: the tests in their order, then the rows and the cells that the counts say.
 use mathlib.Core.Path.{_≡_, sym, _∙_}
-use Rattle.checks.specs.Places.{checked-none, checked-some}
-use Rattle.solver.specs.Answered.{memoryOf, answered-refused, asked, answered-solved}
+use native.Mathlib.Omega.{arith}
+use denote.Ref.{now}
+use lib.Seq.{length-take-le}
+use Rattle.types.specs.declared.Acceptance.the-variants.{Accepted}
+use Rattle.tables.specs.TableFaults.{Tables, tablesOf, acceptance, sizesFault, Sized}
+use Rattle.tables.specs.Memory.{Memory, memoryOf, memoryFault, EnoughFor}
+use Rattle.tables.specs.Limits.{most, square-small}
+use Rattle.solver.specs.Answering.{sizes-refused, counts, memory-refused, room, records-refused, asked, answered}
 use borrow.Author.Needs.{needs}
 use Rattle.solver.proofs.solve.Statement.{statement}
 use Rattle.solver.proofs.solve.Tie as tie
-use Rattle.solver.proofs.solve.Reads as reads
-use Rattle.solver.proofs.solve.Lts as lts
-use Rattle.checks.proofs.check.Reads as check-reads
-use Rattle.solver.proofs.solve_accepted.Reads as solve-accepted-reads
 
--- src/lib.rt:196:9
-check-requires : tie.Need-check-requires
-check-requires c κs = search needs
+abbrev T : tie.Start → Tables
+T s = tablesOf (s .args .n) (now (s .args .terms)) (s .args .m) (now (s .args .propositions)) (s .args .q) (now (s .args .questions))
 
--- src/lib.rt:197:29
-enum-known-checked : tie.Need-enum-known-checked
-enum-known-checked c = search needs
+abbrev M : tie.Start → Memory
+M s = memoryOf (now (s .args .representatives)) (now (s .args .offsets)) (now (s .args .marks)) (now (s .args .pairs)) (now (s .args .answers))
 
--- src/lib.rt:198:9
+sizes-pass : (c : tie.After-enum-told) → Accepted ≡ acceptance (sizesFault most (T (c .before .before .before .before .before .before .before)))
+sizes-pass c = sym (c .enum-told .given .1) ∙ c .before .before .check-sizes .ensures
+
+sized : (c : tie.After-enum-told) → Sized most (T (c .before .before .before .before .before .before .before))
+sized c = counts (T (c .before .before .before .before .before .before .before)) (M (c .before .before .before .before .before .before .before)) (sizes-pass c)
+
+memory-passes : (c : tie.After-enum-told2) → Accepted ≡ acceptance (memoryFault (T (c .before .before .before .before .before .before .before .before .before .before)) (M (c .before .before .before .before .before .before .before .before .before .before)))
+memory-passes c = sym (c .enum-told2 .given .1) ∙ c .before .before .check-memory .ensures
+
+enough : (c : tie.After-enum-told2) → EnoughFor (T (c .before .before .before .before .before .before .before .before .before .before)) (M (c .before .before .before .before .before .before .before .before .before .before))
+enough c = room (T (c .before .before .before .before .before .before .before .before .before .before)) (M (c .before .before .before .before .before .before .before .before .before .before)) (sizes-pass (c .before .before .before)) (memory-passes c)
+
+check-sizes-requires : tie.Need-check-sizes-requires
+check-sizes-requires c κs = search needs
+
+enum-known-sizes : tie.Need-enum-known-sizes
+enum-known-sizes c = search needs
+
 returns : tie.Need-returns
-returns c =
-    answered-refused _ (memoryOf (c .before .before .before .before .before .before .before .before .before .before .before .before .before .before .before .args .representatives .now) (c .before .before .before .before .before .before .before .before .before .before .before .before .before .before .before .args .offsets .now) (c .before .before .before .before .before .before .before .before .before .before .before .before .before .before .before .args .marks .now) (c .before .before .before .before .before .before .before .before .before .before .before .before .before .before .before .args .pairs .now) (c .before .before .before .before .before .before .before .before .before .before .before .before .before .before .before .args .answers .now)) _ _ (checked-some _ (sym (c .before .checked .given .1) ∙ c .before .before .before .check .ensures))
+returns c = sizes-refused (T (c .before .before .before .before .before .before .before .before)) (M (c .before .before .before .before .before .before .before .before)) (sym ((c .before .sizes) .given .1) ∙ (c .before .before .before .check-sizes) .ensures)
 
 enum-told : tie.Need-enum-told
 enum-told c = search needs
 
--- src/lib.rt:200:5
-solve-accepted-requires : tie.Need-solve-accepted-requires
-solve-accepted-requires c κs =
-    asked _ _ _ _ _ _ _ _ _ _ _ _ _ (memoryOf (c .before .before .before .before .before .before .before .before .before .before .before .before .before .before .before .before .before .before .before .args .representatives .now) (c .before .before .before .before .before .before .before .before .before .before .before .before .before .before .before .before .before .before .before .args .offsets .now) (c .before .before .before .before .before .before .before .before .before .before .before .before .before .before .before .before .before .before .before .args .marks .now) (c .before .before .before .before .before .before .before .before .before .before .before .before .before .before .before .before .before .before .before .args .pairs .now) (c .before .before .before .before .before .before .before .before .before .before .before .before .before .before .before .before .before .before .before .args .answers .now)) (checked-none _ (sym (c .before .before .before .before .before .enum-told .given .1) ∙ c .before .before .before .before .before .before .before .check .ensures))
+check-memory-requires : tie.Need-check-memory-requires
+check-memory-requires c κs = sized (c) .few-terms
 
--- src/lib.rt:193:1
+enum-known-room : tie.Need-enum-known-room
+enum-known-room c = search needs
+
+returns-2 : tie.Need-returns-2
+returns-2 c = memory-refused (T (c .before .before .before .before .before .before .before .before .before .before .before)) (M (c .before .before .before .before .before .before .before .before .before .before .before)) (sizes-pass (c .before .before .before .before)) (sym ((c .before .room) .given .1) ∙ (c .before .before .before .check-memory) .ensures)
+
+enum-told-2 : tie.Need-enum-told-2
+enum-told-2 c = search needs
+
+slice-aggregate-check-records : tie.Need-slice-aggregate-check-records
+slice-aggregate-check-records c = sym (length-take-le _ _ (sized (c .before .before .before .before) .terms-long))
+
+slice-aggregate-check-records-2 : tie.Need-slice-aggregate-check-records-2
+slice-aggregate-check-records-2 c = sym (length-take-le _ _ (sized (c .before .before .before .before .before) .propositions-long))
+
+slice-aggregate-check-records-3 : tie.Need-slice-aggregate-check-records-3
+slice-aggregate-check-records-3 c = sym (length-take-le _ _ (sized (c .before .before .before .before .before .before) .questions-long))
+
+check-records-requires : tie.Need-check-records-requires
+check-records-requires c κs = search needs
+
+enum-known-records : tie.Need-enum-known-records
+enum-known-records c = search needs
+
+returns-3 : tie.Need-returns-3
+returns-3 c = records-refused (T (c .before .before .before .before .before .before .before .before .before .before .before .before .before .before .before .before .before)) (M (c .before .before .before .before .before .before .before .before .before .before .before .before .before .before .before .before .before)) (sizes-pass (c .before .before .before .before .before .before .before .before .before .before)) (memory-passes (c .before .before .before .before .before .before .before)) (sym ((c .before .records) .given .1) ∙ (c .before .before .before .check-records) .ensures)
+
+enum-told-3 : tie.Need-enum-told-3
+enum-told-3 c = search needs
+
+mul-size : tie.Need-mul-size
+mul-size c = omega (arith, square-small ((c .before .before .before .before .before .before .before .before .before .before .before .before .before .before .before .before) .args .n) (sized (c .before .before .before .before .before .before .before .before .before) .few-terms))
+
+add-size : tie.Need-add-size
+add-size c = omega (arith, square-small ((c .before .before .before .before .before .before .before .before .before .before .before .before .before .before .before .before) .args .n) (sized (c .before .before .before .before .before .before .before .before .before) .few-terms))
+
+slice-aggregate-solve-accepted : tie.Need-slice-aggregate-solve-accepted
+slice-aggregate-solve-accepted c = sym (length-take-le _ _ (sized (c .before .before .before .before .before .before .before .before .before .before) .terms-long))
+
+slice-aggregate-solve-accepted-2 : tie.Need-slice-aggregate-solve-accepted-2
+slice-aggregate-solve-accepted-2 c = sym (length-take-le _ _ (sized (c .before .before .before .before .before .before .before .before .before .before .before) .propositions-long))
+
+slice-aggregate-solve-accepted-3 : tie.Need-slice-aggregate-solve-accepted-3
+slice-aggregate-solve-accepted-3 c = sym (length-take-le _ _ (sized (c .before .before .before .before .before .before .before .before .before .before .before .before) .questions-long))
+
+slice-relend-prefix-solve-accepted : tie.Need-slice-relend-prefix-solve-accepted
+slice-relend-prefix-solve-accepted c = enough (c .before .before .before .before .before .before .before .before .before) .representatives
+
+slice-aggregate-solve-accepted-4 : tie.Need-slice-aggregate-solve-accepted-4
+slice-aggregate-solve-accepted-4 c = sym (length-take-le _ _ (enough (c .before .before .before .before .before .before .before .before .before .before) .representatives))
+
+slice-relend-prefix-solve-accepted-2 : tie.Need-slice-relend-prefix-solve-accepted-2
+slice-relend-prefix-solve-accepted-2 c = enough (c .before .before .before .before .before .before .before .before .before .before) .offsets
+
+slice-aggregate-solve-accepted-5 : tie.Need-slice-aggregate-solve-accepted-5
+slice-aggregate-solve-accepted-5 c = sym (length-take-le _ _ (enough (c .before .before .before .before .before .before .before .before .before .before .before) .offsets))
+
+slice-relend-prefix-solve-accepted-3 : tie.Need-slice-relend-prefix-solve-accepted-3
+slice-relend-prefix-solve-accepted-3 c = enough (c .before .before .before .before .before .before .before .before .before .before .before) .marks
+
+slice-aggregate-solve-accepted-6 : tie.Need-slice-aggregate-solve-accepted-6
+slice-aggregate-solve-accepted-6 c = sym (length-take-le _ _ (enough (c .before .before .before .before .before .before .before .before .before .before .before .before) .marks))
+
+slice-relend-prefix-solve-accepted-4 : tie.Need-slice-relend-prefix-solve-accepted-4
+slice-relend-prefix-solve-accepted-4 c = enough (c .before .before .before .before .before .before .before .before .before .before .before .before) .pairs
+
+slice-aggregate-solve-accepted-7 : tie.Need-slice-aggregate-solve-accepted-7
+slice-aggregate-solve-accepted-7 c = sym (length-take-le _ _ (enough (c .before .before .before .before .before .before .before .before .before .before .before .before .before) .pairs))
+
+slice-relend-prefix-solve-accepted-5 : tie.Need-slice-relend-prefix-solve-accepted-5
+slice-relend-prefix-solve-accepted-5 c = enough (c .before .before .before .before .before .before .before .before .before .before .before .before .before) .answers
+
+slice-aggregate-solve-accepted-8 : tie.Need-slice-aggregate-solve-accepted-8
+slice-aggregate-solve-accepted-8 c = sym (length-take-le _ _ (enough (c .before .before .before .before .before .before .before .before .before .before .before .before .before .before) .answers))
+
+solve-accepted-requires : tie.Need-solve-accepted-requires
+solve-accepted-requires c κs = asked (T (c .before .before .before .before .before .before .before .before .before .before .before .before .before .before .before .before .before .before .before .before .before .before .before .before)) (M (c .before .before .before .before .before .before .before .before .before .before .before .before .before .before .before .before .before .before .before .before .before .before .before .before)) (sizes-pass (c .before .before .before .before .before .before .before .before .before .before .before .before .before .before .before .before .before)) (memory-passes (c .before .before .before .before .before .before .before .before .before .before .before .before .before .before)) (sym ((c .before .before .before .before .before .before .before .before .enum-told3) .given .1) ∙ (c .before .before .before .before .before .before .before .before .before .before .check-records) .ensures)
+
 same-length : tie.Need-same-length
 same-length c = search needs
 
--- src/lib.rt:193:1
 same-length-2 : tie.Need-same-length-2
 same-length-2 c = search needs
 
--- src/lib.rt:193:1
 same-length-3 : tie.Need-same-length-3
 same-length-3 c = search needs
 
--- src/lib.rt:193:1
 same-length-4 : tie.Need-same-length-4
 same-length-4 c = search needs
 
--- src/lib.rt:193:1
 same-length-5 : tie.Need-same-length-5
 same-length-5 c = search needs
 
--- src/lib.rt:193:1
-returns-2 : tie.Need-returns-2
-returns-2 c =
-    answered-solved _ _ _ _ _ _ _ _ _ _ _ _ _ (memoryOf (c .before .before .before .before .before .before .before .before .before .before .before .before .before .before .before .before .before .before .before .before .before .before .before .before .before .before .before .before .before .args .representatives .now) (c .before .before .before .before .before .before .before .before .before .before .before .before .before .before .before .before .before .before .before .before .before .before .before .before .before .before .before .before .before .args .offsets .now) (c .before .before .before .before .before .before .before .before .before .before .before .before .before .before .before .before .before .before .before .before .before .before .before .before .before .before .before .before .before .args .marks .now) (c .before .before .before .before .before .before .before .before .before .before .before .before .before .before .before .before .before .before .before .before .before .before .before .before .before .before .before .before .before .args .pairs .now) (c .before .before .before .before .before .before .before .before .before .before .before .before .before .before .before .before .before .before .before .before .before .before .before .before .before .before .before .before .before .args .answers .now)) _ _ (checked-none _ (sym (c .before .before .before .before .before .before .before .before .before .before .before .before .before .before .before .enum-told .given .1) ∙ c .before .before .before .before .before .before .before .before .before .before .before .before .before .before .before .before .before .check .ensures)) (c .before .before .before .before .before .before .before .before .before .solve-accepted .ensures)
+returns-4 : tie.Need-returns-4
+returns-4 c = answered (T (c .before .before .before .before .before .before .before .before .before .before .before .before .before .before .before .before .before .before .before .before .before .before .before .before .before .before .before .before .before .before .before .before .before .before)) (M (c .before .before .before .before .before .before .before .before .before .before .before .before .before .before .before .before .before .before .before .before .before .before .before .before .before .before .before .before .before .before .before .before .before .before)) (sizes-pass (c .before .before .before .before .before .before .before .before .before .before .before .before .before .before .before .before .before .before .before .before .before .before .before .before .before .before .before)) (memory-passes (c .before .before .before .before .before .before .before .before .before .before .before .before .before .before .before .before .before .before .before .before .before .before .before .before)) (sym ((c .before .before .before .before .before .before .before .before .before .before .before .before .before .before .before .before .before .before .enum-told3) .given .1) ∙ (c .before .before .before .before .before .before .before .before .before .before .before .before .before .before .before .before .before .before .before .before .check-records) .ensures) _ _ ((c .before .before .before .before .before .before .before .before .before .solve-accepted) .ensures)
 
 pub solve-spec : {M : Type 1} → statement M
 solve-spec =
     tie.close
     (tie.spec
-    check-requires
-    enum-known-checked
+    check-sizes-requires
+    enum-known-sizes
     returns
     enum-told
+    check-memory-requires
+    enum-known-room
+    returns-2
+    enum-told-2
+    slice-aggregate-check-records
+    slice-aggregate-check-records-2
+    slice-aggregate-check-records-3
+    check-records-requires
+    enum-known-records
+    returns-3
+    enum-told-3
+    mul-size
+    add-size
+    slice-aggregate-solve-accepted
+    slice-aggregate-solve-accepted-2
+    slice-aggregate-solve-accepted-3
+    slice-relend-prefix-solve-accepted
+    slice-aggregate-solve-accepted-4
+    slice-relend-prefix-solve-accepted-2
+    slice-aggregate-solve-accepted-5
+    slice-relend-prefix-solve-accepted-3
+    slice-aggregate-solve-accepted-6
+    slice-relend-prefix-solve-accepted-4
+    slice-aggregate-solve-accepted-7
+    slice-relend-prefix-solve-accepted-5
+    slice-aggregate-solve-accepted-8
     solve-accepted-requires
     same-length
     same-length-2
     same-length-3
     same-length-4
     same-length-5
-    returns-2)
+    returns-4)

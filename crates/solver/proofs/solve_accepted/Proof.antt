@@ -1,40 +1,25 @@
 -- `solver::solve_accepted` meets its contract.
+use mathlib.Core.Path.{sym, _∙_}
 use native.Mathlib.Omega.{arith}
-use Prim.Native.Nat.{_≤_}
-use mathlib.Core.Path.{_∙_}
-use Rattle.solver.specs.Results.{filled-all, length-filled, solves-satisfiable, solves-contradiction}
+use denote.Ref.{now}
+use Rattle.solver.specs.Cells.{filled-as, filled-count}
+use Rattle.solver.specs.Kept.{ones-kept, not-contradictory, is-contradictory}
+use Rattle.solver.specs.Results.{labelling, solves-satisfiable, solves-contradiction}
 use borrow.Author.Needs.{needs}
 use Rattle.solver.proofs.solve_accepted.Statement.{statement}
 use Rattle.solver.proofs.solve_accepted.Tie as tie
 
-slice-aggregate-judge : tie.Need-slice-aggregate-judge
-slice-aggregate-judge c = search needs
+fill-requires : tie.Need-fill-requires
+fill-requires c κs = search needs
 
-slice-aggregate-judge-2 : tie.Need-slice-aggregate-judge-2
-slice-aggregate-judge-2 c = search needs
+is-consistent-requires : tie.Need-is-consistent-requires
+is-consistent-requires c κs = let s = (c .before .before .before .before .before .before .before .before .before .before .before) .pre in ((s .accepted, omega (arith, filled-count 1 ((c .before .before .before .before .before .fill) .ensures) (s .marks))), (s .representatives, s .offsets))
 
-slice-aggregate-judge-3 : tie.Need-slice-aggregate-judge-3
-slice-aggregate-judge-3 c = search needs
+fill-requires-2 : tie.Need-fill-requires-2
+fill-requires-2 c κs = search needs
 
-judge-requires : tie.Need-judge-requires
-judge-requires c κs =
-    let s = c .before .before .before .before .before .before .before .before .before .before .before .before .before .before .before in
-    let few : s .args .n ≤ 512 = s .pre .good .few-terms in
-    (s .pre .good, (s .pre .marks-room, (few, (few, few))))
-
-slice-aggregate-leave-satisfiable : tie.Need-slice-aggregate-leave-satisfiable
-slice-aggregate-leave-satisfiable c = search needs
-
-slice-aggregate-leave-satisfiable-2 : tie.Need-slice-aggregate-leave-satisfiable-2
-slice-aggregate-leave-satisfiable-2 c = search needs
-
-leave-satisfiable-requires : tie.Need-leave-satisfiable-requires
-leave-satisfiable-requires c κs =
-    let s = c .before .before .before .before .before .before .before .before .before .before .before .before .before .before .before .before .before .before .before .before .before .before .before .before .before .before .before .before .before in
-    let j = c .before .before .before .before .before .before .before .before .before .before .before .before .before .judge .ensures in (
-      record { good = s .pre .good; questions = s .pre .questions; reps-room = s .pre .reps-room; offs-room = s .pre .offs-room; marks-room = rw (j .marked) (length-filled _ _ 1 (s .pre .marks-room)); pairs-room = s .pre .pairs-room; answers-room = s .pre .answers-room },
-      rw (c .before .before .before .before .before .before .before .if1 .taken) at (j .found),
-    )
+tell-differences-requires : tie.Need-tell-differences-requires
+tell-differences-requires c κs = let s = (c .before .before .before .before .before .before .before .before .before .before .before .before .before .before .before .before .before .before .before .before .before .before .before .before) .pre in (labelling _ (s .accepted) (s .few-propositions) (ones-kept ((c .before .before .before .before .before .before .before .before .before .before .before .before .before .before .before .before .before .before .fill) .ensures) (s .marks)) ((c .before .before .before .before .before .before .before .before .before .before .before .before .is-consistent) .ensures) ((c .before .before .before .before .before .before .before .before .if1) .taken), record { accepted = s .accepted-questions; few-questions = s .few-questions; pairs-count = s .pairs; answers-count = s .answers })
 
 same-length : tie.Need-same-length
 same-length c = search needs
@@ -52,29 +37,28 @@ same-length-5 : tie.Need-same-length-5
 same-length-5 c = search needs
 
 returns : tie.Need-returns
-returns c =
-    let s = c .before .before .before .before .before .before .before .before .before .before .before .before .before .before .before .before .before .before .before .before .before .before .before .before .before .before .before .before .before .before .before .before .before .before .before .before .before .before .before in
-    let j = c .before .before .before .before .before .before .before .before .before .before .before .before .before .before .before .before .before .before .before .before .before .before .before .judge .ensures in
-    let C = rw (c .before .before .before .before .before .before .before .before .before .before .before .before .before .before .before .before .before .if1 .taken) at (j .found) in
-    solves-satisfiable _ (s .pre .good) _ _ _ _ (s .pre .questions) (C .no-contradiction) (rw (j .marked) at (c .before .before .before .before .before .before .before .before .before .leave-satisfiable .ensures))
+returns c = let s = (c .before .before .before .before .before .before .before .before .before .before .before .before .before .before .before .before .before .before .before .before .before .before .before .before .before .before .before .before .before) .pre in let a = (c .before .before .before .before .before .before .before .before .before .before .before .before .before .before .before .before .before .before .before .before .before .before .before .before .before .before .before .before .before) .args in let ones = ones-kept ((c .before .before .before .before .before .before .before .before .before .before .before .before .before .before .before .before .before .before .before .before .before .before .before .fill) .ensures) (s .marks) in let d = (c .before .before .before .before .before .before .before .before .before .before .before .before .before .before .before .before .before .is-consistent) .ensures in let yes = (c .before .before .before .before .before .before .before .before .before .before .before .before .before .if1) .taken in
+    solves-satisfiable _ (s .accepted) _ _ (labelling _ (s .accepted) (s .few-propositions) ones d yes) (not-contradictory _ (s .accepted) ones d yes) (now (a .questions)) (s .accepted-questions)
+    (filled-as 0 ((c .before .before .before .before .before .before .before .before .before .before .before .fill2) .ensures) (filled-count 1 ((c .before .before .before .before .before .before .before .before .before .before .before .before .before .before .before .before .before .before .before .before .before .before .before .fill) .ensures) (s .marks)))
+    ((c .before .before .before .before .tell-differences) .ensures .0)
+    ((c .before .before .before .before .tell-differences) .ensures .1)
 
-slice-aggregate-leave-contradiction : tie.Need-slice-aggregate-leave-contradiction
-slice-aggregate-leave-contradiction c = search needs
+blame-marks-requires : tie.Need-blame-marks-requires
+blame-marks-requires c κs = let s = (c .before .before .before .before .before .before .before .before .before .before .before .before .before .before .before .before .before .before .before) .pre in let k = (c .before .before .before .before .before .before .before .is-consistent) .kept in (record { good = s .accepted; marks-count = filled-count 1 ((c .before .before .before .before .before .before .before .before .before .before .before .before .before .fill) .ensures) (s .marks); reps-count = k .1 .1 .1 .0 ∙ s .representatives; offs-count = k .1 .1 .1 .1 .0 ∙ s .offsets }, ones-kept ((c .before .before .before .before .before .before .before .before .before .before .before .before .before .fill) .ensures) (s .marks))
 
-slice-aggregate-leave-contradiction-2 : tie.Need-slice-aggregate-leave-contradiction-2
-slice-aggregate-leave-contradiction-2 c = search needs
+reset-requires : tie.Need-reset-requires
+reset-requires c κs = let s = (c .before .before .before .before .before .before .before .before .before .before .before .before .before .before .before .before .before .before .before .before .before .before .before .before .before .before .before) .pre in let k = (c .before .before .before .before .before .before .before .before .before .before .before .before .before .before .before .is-consistent) .kept in let b = (c .before .before .before .before .before .before .before .blame-marks) .kept in
+    let r = b .1 .1 .1 .0 ∙ (k .1 .1 .1 .0 ∙ s .representatives) in
+    (b .1 .1 .1 .1 .0 ∙ (k .1 .1 .1 .1 .0 ∙ s .offsets) ∙ sym r, rw r (s .accepted .few-terms))
 
-slice-aggregate-leave-contradiction-3 : tie.Need-slice-aggregate-leave-contradiction-3
-slice-aggregate-leave-contradiction-3 c = search needs
+fill-requires-3 : tie.Need-fill-requires-3
+fill-requires-3 c κs = search needs
 
-leave-contradiction-requires : tie.Need-leave-contradiction-requires
-leave-contradiction-requires c κs =
-    let s = c .before .before .before .before .before .before .before .before .before .before .before .before .before .before .before .before .before .before .before .before .before .before .before .before .before .before .before .before .before .before in
-    let k = c .before .before .before .before .before .before .before .before .before .before .before .before .before .before .judge in
-    let few : s .args .n ≤ 512 = s .pre .good .few-terms in (
-      record { good = s .pre .good; questions = s .pre .questions; reps-room = s .pre .reps-room; offs-room = s .pre .offs-room; marks-room = rw (k .ensures .marked) (length-filled _ _ 1 (s .pre .marks-room)); pairs-room = s .pre .pairs-room; answers-room = s .pre .answers-room },
-      ((λ i h. rw (k .ensures .marked) (filled-all _ _ 1 (s .pre .marks-room) i h)), (omega (arith, few, k .kept .1 .1 .1 .1 .1 .1 .1 .1 .1 .1 .0), (omega (arith, few, k .kept .1 .1 .1 .1 .1 .1 .1 .1 .1 .1 .1 .0), omega (arith, few, k .kept .1 .1 .1 .1 .1 .1 .1 .1 .1 .1 .1 .1 .0)))),
-    )
+answer-number-requires : tie.Need-answer-number-requires
+answer-number-requires c κs = search needs
+
+fill-requires-4 : tie.Need-fill-requires-4
+fill-requires-4 c κs = search needs
 
 same-length-6 : tie.Need-same-length-6
 same-length-6 c = search needs
@@ -92,32 +76,34 @@ same-length-10 : tie.Need-same-length-10
 same-length-10 c = search needs
 
 returns-2 : tie.Need-returns-2
-returns-2 c =
-    let s = c .before .before .before .before .before .before .before .before .before .before .before .before .before .before .before .before .before .before .before .before .before .before .before .before .before .before .before .before .before .before .before .before .before .before .before .before .before .before .before .before .before .before .before in
-    let j = c .before .before .before .before .before .before .before .before .before .before .before .before .before .before .before .before .before .before .before .before .before .before .before .before .before .before .before .judge .ensures in
-    solves-contradiction _ (s .pre .good) _ _ _ _ (s .pre .questions) (rw (c .before .before .before .before .before .before .before .before .before .before .before .before .before .before .before .before .before .before .before .before .before .if1 .left) at (j .found)) (rw (j .marked) at (c .before .before .before .before .before .before .before .before .before .before .before .before .leave-contradiction .ensures))
+returns-2 c = let s = (c .before .before .before .before .before .before .before .before .before .before .before .before .before .before .before .before .before .before .before .before .before .before .before .before .before .before .before .before .before .before .before .before .before .before .before .before .before .before .before .before) .pre in let a = (c .before .before .before .before .before .before .before .before .before .before .before .before .before .before .before .before .before .before .before .before .before .before .before .before .before .before .before .before .before .before .before .before .before .before .before .before .before .before .before .before) .args in let k = (c .before .before .before .before .before .before .before .before .before .before .before .before .before .before .before .before .before .before .before .before .before .before .before .before .before .before .before .before .is-consistent) .kept in let b = (c .before .before .before .before .before .before .before .before .before .before .before .before .before .before .before .before .before .before .before .before .blame-marks) .kept in
+    solves-contradiction _ (s .accepted) (is-contradictory _ (s .accepted) (ones-kept ((c .before .before .before .before .before .before .before .before .before .before .before .before .before .before .before .before .before .before .before .before .before .before .before .before .before .before .before .before .before .before .before .before .before .before .fill) .ensures) (s .marks)) ((c .before .before .before .before .before .before .before .before .before .before .before .before .before .before .before .before .before .before .before .before .before .before .before .before .before .before .before .before .is-consistent) .ensures) ((c .before .before .before .before .before .before .before .before .before .before .before .before .before .before .before .before .before .before .before .before .before .before .before .before .if1) .left)) (now (a .questions))
+    (b .1 .1 .1 .0 ∙ (k .1 .1 .1 .0 ∙ s .representatives))
+    (b .1 .1 .1 .1 .0 ∙ (k .1 .1 .1 .1 .0 ∙ s .offsets))
+    ((c .before .before .before .before .before .before .before .before .before .before .before .before .reset) .ensures)
+    ((c .before .before .before .before .before .before .before .before .before .before .before .before .before .before .before .before .before .before .before .before .blame-marks) .ensures)
+    (filled-as 0 ((c .before .before .before .before .before .before .before .fill3) .ensures) (s .pairs))
+    (filled-as 3 (rw ((c .before .before .before .answer-number) .ensures) at ((c .before .before .fill4) .ensures)) (s .answers))
 
 pub solve-accepted-spec : {M : Type 1} → statement M
 solve-accepted-spec =
     tie.close
     (tie.spec
-    slice-aggregate-judge
-    slice-aggregate-judge-2
-    slice-aggregate-judge-3
-    judge-requires
-    slice-aggregate-leave-satisfiable
-    slice-aggregate-leave-satisfiable-2
-    leave-satisfiable-requires
+    fill-requires
+    is-consistent-requires
+    fill-requires-2
+    tell-differences-requires
     same-length
     same-length-2
     same-length-3
     same-length-4
     same-length-5
     returns
-    slice-aggregate-leave-contradiction
-    slice-aggregate-leave-contradiction-2
-    slice-aggregate-leave-contradiction-3
-    leave-contradiction-requires
+    blame-marks-requires
+    reset-requires
+    fill-requires-3
+    answer-number-requires
+    fill-requires-4
     same-length-6
     same-length-7
     same-length-8

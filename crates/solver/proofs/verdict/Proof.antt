@@ -1,99 +1,81 @@
--- `solver::verdict` meets its contract.
-use mathlib.Core.Path.{_≡_, refl, sym, _∙_}
-use mathlib.Core.Bool.{true, false}
-use borrow.Author.Tests.{not-true, not-false}
-use Rattle.solver.specs.Verdict.{verdict-refused, verdict-good, verdict-when}
+-- The rows that the counts say are an accepted set, whose verdict is that of the tables.
+use mathlib.Core.Path.{_≡_, sym, _∙_}
+use mathlib.Core.Bool.{true, false, not}
+use native.Mathlib.Omega.{arith}
+use lib.ListN.{replicate, getD-replicate}
+use lib.Seq.{length-take-le}
+use denote.Ref.{now}
 use borrow.Author.Needs.{needs}
+use borrow.Author.Tests.{not-true, not-false}
+use Rattle.types.specs.declared.Acceptance.the-variants.{Accepted}
+use Rattle.tables.specs.Limits.{most}
+use Rattle.tables.specs.TableFaults.{Tables, tablesOf, tablesFault, acceptance, Sized}
+use Rattle.solver.specs.Kept.{isContradictory, decided-all}
+use Rattle.solver.specs.Counted.{countedSet, counted-accepted}
+use Rattle.solver.specs.Verdict.{verdict-refused, unasked-verdict, counts, no-records-fault, verdict-decided}
 use Rattle.solver.proofs.verdict.Statement.{statement}
 use Rattle.solver.proofs.verdict.Tie as tie
 
-sub-check : tie.Need-sub-check
-sub-check c = search needs
-
-part-check-start : tie.Need-part-check-start
-part-check-start c = search needs
-
-part-check-end : tie.Need-part-check-end
-part-check-end c = search needs
-
-sub-check-2 : tie.Need-sub-check-2
-sub-check-2 c = search needs
-
-part-check-start-2 : tie.Need-part-check-start-2
-part-check-start-2 c = search needs
-
-part-check-end-2 : tie.Need-part-check-end-2
-part-check-end-2 c = search needs
-
-sub-check-3 : tie.Need-sub-check-3
-sub-check-3 c = search needs
-
-part-check-start-3 : tie.Need-part-check-start-3
-part-check-start-3 c = search needs
-
-part-check-end-3 : tie.Need-part-check-end-3
-part-check-end-3 c = search needs
-
-check-requires : tie.Need-check-requires
-check-requires c κs = search needs
-
-enum-known-checked : tie.Need-enum-known-checked
-enum-known-checked c = search needs
+abbrev tables : tie.Start → Tables
+tables s = tablesOf (s .args .n) (now (s .args .terms)) (s .args .m) (now (s .args .propositions)) 0 (replicate 1 (replicate 3 0))
 
 returns : tie.Need-returns
-returns c =
-    verdict-refused _ refl _ _ (sym (c .before .checked .given .1) ∙ c .before .before .before .check .ensures)
+returns c = verdict-refused (tables (c .before .before .before .before .before)) (sym (c .before .found .given .1) ∙ c .before .before .before .check-tables .ensures) ∙ unasked-verdict _ _ _ _ _
 
-enum-told : tie.Need-enum-told
-enum-told c = search needs
+passed : (c : tie.After-enum-told) → Accepted ≡ acceptance (tablesFault most (tables (c .before .before .before .before)))
+passed c = sym (c .enum-told .given .1) ∙ c .before .before .check-tables .ensures
 
-slice-aggregate-judge : tie.Need-slice-aggregate-judge
-slice-aggregate-judge c = search needs
+sizes : (c : tie.After-enum-told) → Sized most (tables (c .before .before .before .before))
+sizes c = counts (tables (c .before .before .before .before)) (passed c)
 
-slice-aggregate-judge-2 : tie.Need-slice-aggregate-judge-2
-slice-aggregate-judge-2 c = search needs
+is-consistent-requires : tie.Need-is-consistent-requires
+is-consistent-requires c κs =
+    let t = c .before .before .before .before .before in
+    let T = tables (t .before .before .before .before) in
+    let s = sizes t in
+    let n = length-take-le (T .terms .count) (T .terms .rows) (s .terms-long) in (
+      (counted-accepted T (sizes t) (no-records-fault T (passed t)), omega (arith, length-take-le (T .propositions .count) (T .propositions .rows) (s .propositions-long), s .few-propositions)),
+      (length-take-le _ _ (s .few-terms) ∙ sym n, length-take-le _ _ (s .few-terms) ∙ sym n),
+    )
 
-slice-aggregate-judge-3 : tie.Need-slice-aggregate-judge-3
-slice-aggregate-judge-3 c = search needs
-
-slice-aggregate-judge-4 : tie.Need-slice-aggregate-judge-4
-slice-aggregate-judge-4 c = search needs
-
-judge-requires : tie.Need-judge-requires
-judge-requires c κs =
-    let good = verdict-good _ refl (sym (c .before .before .before .before .enum-told .given .1) ∙ c .before .before .before .before .before .before .check .ensures) in
-    (good, (good .few-propositions, (good .few-terms, (good .few-terms, good .few-terms))))
+decides : (c : tie.After-is-consistent) → isContradictory (countedSet (tables (c .before .before .before .before .before .before .before .before .before .before))) ≡ not (c .is-consistent .result)
+decides c =
+    let t = c .before .before .before .before .before .before in
+    let T = tables (t .before .before .before .before) in
+    let s = sizes t in
+    let m = length-take-le (T .propositions .count) (T .propositions .rows) (s .propositions-long) in
+    decided-all (countedSet T) (counted-accepted T (sizes t) (no-records-fault T (passed t))) (c .is-consistent .result) (λ k h. getD-replicate 512 k 1 0 (omega (arith, m, s .few-propositions))) (c .is-consistent .ensures)
 
 returns-2 : tie.Need-returns-2
 returns-2 c =
-    verdict-when _ refl (sym (c .before .before .before .before .before .before .before .before .before .before .enum-told .given .1) ∙ c .before .before .before .before .before .before .before .before .before .before .before .before .check .ensures) true (rw (not-true (c .before .before .before .before .before .judge .result) (c .if1 .taken)) at (c .before .before .before .before .before .judge .ensures .found))
+    let d = c .before .before .before in
+    let t = d .before .before .before .before .before .before in
+    verdict-decided (tables (t .before .before .before .before)) (passed t) false (rw (not-true (d .is-consistent .result) (c .if1 .taken)) at (decides d))
+    ∙ unasked-verdict _ _ _ _ _
 
 returns-3 : tie.Need-returns-3
 returns-3 c =
-    let C = rw (not-false (c .before .before .before .before .before .judge .result) (c .if1 .left)) at (c .before .before .before .before .before .judge .ensures .found) in
-    verdict-when _ refl (sym (c .before .before .before .before .before .before .before .before .before .before .enum-told .given .1) ∙ c .before .before .before .before .before .before .before .before .before .before .before .before .check .ensures) false (C .no-contradiction)
+    let d = c .before .before .before in
+    let t = d .before .before .before .before .before .before in
+    verdict-decided (tables (t .before .before .before .before)) (passed t) true (rw (not-false (d .is-consistent .result) (c .if1 .left)) at (decides d))
+    ∙ unasked-verdict _ _ _ _ _
 
 pub verdict-spec : {M : Type 1} → statement M
 verdict-spec =
     tie.close
     (tie.spec
-    sub-check
-    part-check-start
-    part-check-end
-    sub-check-2
-    part-check-start-2
-    part-check-end-2
-    sub-check-3
-    part-check-start-3
-    part-check-end-3
-    check-requires
-    enum-known-checked
+    (λ c. search needs)
+    (λ c κs. search needs)
+    (λ c. search needs)
     returns
-    enum-told
-    slice-aggregate-judge
-    slice-aggregate-judge-2
-    slice-aggregate-judge-3
-    slice-aggregate-judge-4
-    judge-requires
+    (λ c. search needs)
+    (λ c. sym (length-take-le _ _ (sizes (c .before) .terms-long)))
+    (λ c. sym (length-take-le _ _ (sizes (c .before .before) .propositions-long)))
+    (λ c. search needs)
+    (λ c. sizes (c .before .before .before) .few-terms)
+    (λ c. sym (length-take-le _ _ (sizes (c .before .before .before .before) .few-terms)))
+    (λ c. sizes (c .before .before .before .before) .few-terms)
+    (λ c. sym (length-take-le _ _ (sizes (c .before .before .before .before .before) .few-terms)))
+    is-consistent-requires
     returns-2
     returns-3)

@@ -3,7 +3,8 @@ use native.Mathlib.Omega.{arith}
 use mir.Syntax.{w64}
 use mir.ValLaws.{toZ-ofZ}
 use borrow.Author.Needs.{sfits-of}
-use Rattle.offsets.specs.Fits.{within-sum, within-difference, within-fits}
+use Rattle.integers.specs.Within.{within-sum, within-difference}
+use Rattle.offsets.specs.Fits.{within-fits}
 use Rattle.unionfind.proofs.distance.Statement.{statement}
 use Rattle.unionfind.proofs.distance.Tie as tie
 

@@ -4,7 +4,8 @@ use native.Mathlib.Omega.{arith}
 use mir.Syntax.{w64}
 use mir.ValLaws.{toZ-ofZ}
 use borrow.Author.Needs.{sfits-of}
-use Rattle.offsets.specs.Fits.{within-sum, within-difference, within-fits}
+use Rattle.integers.specs.Within.{within-sum, within-difference}
+use Rattle.offsets.specs.Fits.{within-fits}
 use Rattle.unionfind.specs.Uniting.{swapped, found-both, pair-root, pair-below, pair-near, pair-equated}
 use borrow.Author.Needs.{needs}
 use Rattle.unionfind.proofs.join.Statement.{statement}

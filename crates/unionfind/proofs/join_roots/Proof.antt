@@ -5,7 +5,8 @@ use mir.Syntax.{w64}
 use mir.ValLaws.{toZ-ofZ}
 use borrow.Author.Needs.{sfits-of}
 use Rattle.integers.specs.Compare.{eqℤ-true, eqℤ-false}
-use Rattle.offsets.specs.Fits.{within-negation, within-fits}
+use Rattle.integers.specs.Within.{within-negation}
+use Rattle.offsets.specs.Fits.{within-fits}
 use Rattle.unionfind.specs.Uniting.{roots-held, roots-clashed, roots-down, roots-rise}
 use borrow.Author.Needs.{needs}
 use Rattle.unionfind.proofs.join_roots.Statement.{statement}
@@ -41,8 +42,8 @@ returns-3 c =
     let k = rw (toZ-ofZ w64 (s .args .d) (s .fits .d)) at (c .before .before .before .link .ensures) in
     roots-down (s .pre .0 .0) (s .args .d) (s .pre .1 .0) (s .pre .1 .1 .0) (c .before .before .before .before .before .before .if3 .taken) k
 
-negated-requires : tie.Need-negated-requires
-negated-requires c κs =
+opposite-requires : tie.Need-opposite-requires
+opposite-requires c κs =
     let s = c .before .before .before .before .before in
     rw (toZ-ofZ w64 (s .args .d) (s .fits .d)) (within-fits (omega arith) (within-negation (s .pre .1 .1 .1)))
 
@@ -60,7 +61,7 @@ same-length-4 c = search needs
 returns-4 : tie.Need-returns-4
 returns-4 c =
     let s = c .before .before .before .before .before .before .before .before .before .before in
-    let n = c .before .before .before .before .negated in
+    let n = c .before .before .before .before .opposite in
     let e = rw (toZ-ofZ w64 (s .args .d) (s .fits .d)) at (n .ensures) in
     let k = rw (toZ-ofZ w64 (n .result) (sfits-of (n .ok)), e) at (c .before .before .before .link2 .ensures) in
     roots-rise (s .pre .0 .0) (s .args .d) (s .pre .1 .0) (s .pre .1 .1 .0) (omega arith) k
@@ -76,7 +77,7 @@ join-roots-spec =
     same-length
     same-length-2
     returns-3
-    negated-requires
+    opposite-requires
     link-requires-2
     same-length-3
     same-length-4

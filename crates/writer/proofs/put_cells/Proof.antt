@@ -7,55 +7,44 @@ use Rattle.writer.specs.Appended.{Remaining, remaining-start, remaining-
 use Rattle.writer.specs.Frames.{cellFrame, cells-next, cells-end}
 use Rattle.writer.proofs.put_cells.Statement.{statement}
 use Rattle.writer.proofs.put_cells.Tie as tie
-use Rattle.writer.proofs.put_cells.Reads as reads
-use Rattle.writer.proofs.put_cells.Lts as lts
-use Rattle.writer.proofs.put_cell.Reads as put-cell-reads
 
 abbrev Inv-loop : tie.InvT-loop
-Inv-loop out₀ at blamed n cells next₀ k₀ out next k = (k ≤ n) × Remaining out₀ at (cellFrames (cellFrame blamed) 0 (take n cells)) (cellFrames (cellFrame blamed) k (drop k (take n cells))) out next
+Inv-loop out₀ at blamed cells next₀ k₀ k-end out next k = (k ≤ length cells) × Remaining out₀ at (cellFrames (cellFrame blamed) 0 cells) (cellFrames (cellFrame blamed) k (drop k cells)) out next
 
 abbrev μ-loop : tie.MeasureT-loop
-μ-loop out₀ at blamed n cells next₀ k₀ out next k = n - k
+μ-loop out₀ at blamed cells next₀ k₀ k-end out next k = length cells - k
 
--- src/lib.rt:160:5
 loop-holds : tie.Need-loop-holds Inv-loop μ-loop
 loop-holds c = (omega arith, remaining-start _ _ _)
 
--- src/lib.rt:161:47
 shared-slice-read-put-cell : tie.Need-shared-slice-read-put-cell Inv-loop μ-loop
-shared-slice-read-put-cell c = omega (arith, c .before .before .loop-test .taken, c .before .before .before .before .before .before .pre .0)
+shared-slice-read-put-cell c = omega (arith, c .before .before .loop-test .taken)
 
--- src/lib.rt:161:9
 put-cell-requires : tie.Need-put-cell-requires Inv-loop μ-loop
 put-cell-requires c κs = let l = c .before .before .before .loop in
     let s = c .before .before .before .before .before .before in
-    let R = rw (cells-next (cellFrame (s .args .blamed)) (s .args .cells .now) (s .args .n) (l .k) (s .pre .0) (c .before .before .loop-test .taken)) at (l .inv .1) in
-    omega (arith, remaining-fits _ _ _ _ _ _ (s .pre .1) R, length-append (cellFrame (s .args .blamed) (l .k) (getD (s .args .cells .now) (l .k) 0)) (cellFrames (cellFrame (s .args .blamed)) (l .k + 1) (drop (l .k + 1) (take (s .args .n) (s .args .cells .now)))))
+    let R = rw (cells-next (cellFrame (s .args .blamed)) (s .args .cells .now) (l .k) (c .before .before .loop-test .taken)) at (l .inv .1) in
+    omega (arith, remaining-fits _ _ _ _ _ _ (s .pre) R, length-append (cellFrame (s .args .blamed) (l .k) (getD (s .args .cells .now) (l .k) 0)) (cellFrames (cellFrame (s .args .blamed)) (l .k + 1) (drop (l .k + 1) (s .args .cells .now))))
 
--- src/lib.rt:160:9
 add-k : tie.Need-add-k Inv-loop μ-loop
 add-k c = omega (arith, c .before .before .before .before .before .loop-test .taken)
 
--- src/lib.rt:160:5
 loop-less : tie.Need-loop-less Inv-loop μ-loop
 loop-less c = omega (arith, c .before .before .before .before .before .loop-test .taken)
 
--- src/lib.rt:160:5
 loop-again : tie.Need-loop-again Inv-loop μ-loop
 loop-again c = let l = c .before .before .before .before .before .before .loop in
     let s = c .before .before .before .before .before .before .before .before .before in (
       omega (arith, c .before .before .before .before .before .loop-test .taken),
-      remaining-next _ _ _ (cellFrame (s .args .blamed) (l .k) (getD (s .args .cells .now) (l .k) 0)) (cellFrames (cellFrame (s .args .blamed)) (l .k + 1) (drop (l .k + 1) (take (s .args .n) (s .args .cells .now)))) _ _ _ _ (rw (cells-next (cellFrame (s .args .blamed)) (s .args .cells .now) (s .args .n) (l .k) (s .pre .0) (c .before .before .before .before .before .loop-test .taken)) at (l .inv .1)) (c .before .before .put-cell .ensures),
+      remaining-next _ _ _ (cellFrame (s .args .blamed) (l .k) (getD (s .args .cells .now) (l .k) 0)) (cellFrames (cellFrame (s .args .blamed)) (l .k + 1) (drop (l .k + 1) (s .args .cells .now))) _ _ _ _ (rw (cells-next (cellFrame (s .args .blamed)) (s .args .cells .now) (l .k) (c .before .before .before .before .before .loop-test .taken)) at (l .inv .1)) (c .before .before .put-cell .ensures),
     )
 
--- src/lib.rt:154:1
 same-length : tie.Need-same-length Inv-loop μ-loop
 same-length c = c .before .loop .inv .1 .long
 
--- src/lib.rt:154:1
 returns : tie.Need-returns Inv-loop μ-loop
 returns c = let s = c .before .before .before .before in
-    remaining-end _ _ _ _ _ (rw (cells-end (cellFrame (s .args .blamed)) (s .args .cells .now) (s .args .n) (c .before .loop .k) (s .pre .0) (c .loop-test .left)) at (c .before .loop .inv .1))
+    remaining-end _ _ _ _ _ (rw (cells-end (cellFrame (s .args .blamed)) (s .args .cells .now) (c .before .loop .k) (c .loop-test .left)) at (c .before .loop .inv .1))
 
 pub put-cells-spec : {M : Type 1} → statement M
 put-cells-spec =

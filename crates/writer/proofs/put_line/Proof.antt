@@ -1,18 +1,15 @@
 -- `writer::put_line` meets its contract.
-use Prim.Native.Nat.{ℕ, suc, _+_, _-_, _/_, _%_, _≤_}
-use mathlib.Core.Path.{_≡_, refl, sym, _∙_, ap}
+use Prim.Native.Nat.{suc, _+_, _-_, _/_, _%_, _≤_}
+use mathlib.Core.Path.{_≡_, refl, _∙_}
 use native.Mathlib.Omega.{arith}
 use mathlib.Core.List.{[], _∷_}
 use lib.ListN.{length, drop, getD, length-set}
 use Rattle.text.specs.Lines.{lf, digitOf}
 use Rattle.text.specs.Output.{lineOf}
-use Rattle.writer.specs.Appended.{Appended, Remaining, remaining-start, remaining-next, remaining-end, remaining-fits}
+use Rattle.writer.specs.Appended.{Remaining, remaining-start, remaining-next, remaining-end, remaining-fits}
 use Rattle.writer.specs.Frames.{line-next, line-end, length-line-from}
 use Rattle.writer.proofs.put_line.Statement.{statement}
 use Rattle.writer.proofs.put_line.Tie as tie
-use Rattle.writer.proofs.put_line.Reads as reads
-use Rattle.writer.proofs.put_line.Lts as lts
-use Rattle.writer.proofs.digit_of.Reads as digit-of-reads
 
 abbrev Inv-loop : tie.InvT-loop
 Inv-loop out₀ at frame next₀ k₀ k-end out next k = (k ≤ length frame) × Remaining out₀ at (lineOf frame) (lineOf (drop k frame)) out next
@@ -20,47 +17,36 @@ Inv-loop out₀ at frame next₀ k₀ k-end out next k = (k ≤ length frame) ×
 abbrev μ-loop : tie.MeasureT-loop
 μ-loop out₀ at frame next₀ k₀ k-end out next k = length frame - k
 
--- src/lib.rt:46:5
 loop-holds : tie.Need-loop-holds Inv-loop μ-loop
 loop-holds c = (omega arith, remaining-start _ _ _)
 
--- src/lib.rt:47:17
 shared-slice-read-b : tie.Need-shared-slice-read-b Inv-loop μ-loop
 shared-slice-read-b c = c .before .loop-test .taken
 
--- src/lib.rt:48:21
 digit-of-requires : tie.Need-digit-of-requires Inv-loop μ-loop
 digit-of-requires c κs = omega (arith, c .shared-slice-known2 .given (c .before .before .loop .k))
 
--- src/lib.rt:48:9
 slice-write-out : tie.Need-slice-write-out Inv-loop μ-loop
 slice-write-out c = omega (arith, remaining-fits _ _ _ _ _ _ (c .before .before .before .before .before .before .pre) (c .before .before .before .loop .inv .1), length-line-from (c .before .before .before .before .before .before .args .frame .now) (c .before .before .before .loop .k))
 
--- src/lib.rt:49:25
 digit-of-requires-2 : tie.Need-digit-of-requires-2 Inv-loop μ-loop
 digit-of-requires-2 c κs = omega arith
 
--- src/lib.rt:49:13
 add-out : tie.Need-add-out Inv-loop μ-loop
 add-out c = omega (arith, remaining-fits _ _ _ _ _ _ (c .before .before .before .before .before .before .before .pre) (c .before .before .before .before .loop .inv .1), length-line-from (c .before .before .before .before .before .before .before .args .frame .now) (c .before .before .before .before .loop .k), c .before .before .before .before .before .before .before .good .0 .1, c .before .before .before .loop-test .taken)
 
--- src/lib.rt:49:9
 slice-write-out-2 : tie.Need-slice-write-out-2 Inv-loop μ-loop
 slice-write-out-2 c = simp length-set (omega (arith, remaining-fits _ _ _ _ _ _ (c .before .before .before .before .before .before .before .pre) (c .before .before .before .before .loop .inv .1), length-line-from (c .before .before .before .before .before .before .before .args .frame .now) (c .before .before .before .before .loop .k), c .before .before .before .loop-test .taken))
 
--- src/lib.rt:50:16
 add-next : tie.Need-add-next Inv-loop μ-loop
 add-next c = omega (arith, remaining-fits _ _ _ _ _ _ (c .before .before .before .before .before .before .before .pre) (c .before .before .before .before .loop .inv .1), length-line-from (c .before .before .before .before .before .before .before .args .frame .now) (c .before .before .before .before .loop .k), c .before .before .before .before .before .before .before .good .0 .1, c .before .before .before .loop-test .taken)
 
--- src/lib.rt:46:9
 add-k : tie.Need-add-k Inv-loop μ-loop
 add-k c = omega (arith, c .before .before .before .loop-test .taken, c .before .before .before .before .before .before .before .good)
 
--- src/lib.rt:46:5
 loop-less : tie.Need-loop-less Inv-loop μ-loop
 loop-less c = omega (arith, c .before .before .before .loop-test .taken)
 
--- src/lib.rt:46:5
 loop-again : tie.Need-loop-again Inv-loop μ-loop
 loop-again c = let l = c .before .before .before .before .loop in
     let b = getD (c .before .before .before .before .before .before .before .args .frame .now) (l .k) 0 in
@@ -71,19 +57,15 @@ loop-again c = let l = c .before .before .before .before .loop in
           (record { cells = rw (c .before .digit-of .ensures, c .digit-of2 .ensures, e); place = refl }),
     )
 
--- src/lib.rt:52:5
 slice-write-out-3 : tie.Need-slice-write-out-3 Inv-loop μ-loop
 slice-write-out-3 c = omega (arith, remaining-fits _ _ _ _ _ _ (c .before .before .before .before .pre) (c .before .loop .inv .1), length-line-from (c .before .before .before .before .args .frame .now) (c .before .loop .k))
 
--- src/lib.rt:53:5
 add-result : tie.Need-add-result Inv-loop μ-loop
 add-result c = omega (arith, remaining-fits _ _ _ _ _ _ (c .before .before .before .before .pre) (c .before .loop .inv .1), length-line-from (c .before .before .before .before .args .frame .now) (c .before .loop .k), c .before .before .before .before .good .0 .1)
 
--- src/lib.rt:41:1
 same-length : tie.Need-same-length Inv-loop μ-loop
 same-length c = length-set (c .before .loop .out) (c .before .loop .next) _ ∙ c .before .loop .inv .1 .long
 
--- src/lib.rt:41:1
 returns : tie.Need-returns Inv-loop μ-loop
 returns c = let l = c .before .loop in
     remaining-end _ _ _ _ _ (remaining-next _ _ _ (lf ∷ []) [] _ _ _ _ (rw (line-end (c .before .before .before .before .args .frame .now) (l .k) (c .loop-test .left)) at (l .inv .1)) (record { cells = refl; place = refl }))

@@ -1,48 +1,17 @@
-//! The proved solver beside the second solver, in one run: the time of each on sets of ten families and its ratio, how the time grows
+//! The proved solver beside the second solver, in one run: the time of each on sets of eleven families and its ratio, how the time grows
 //! from 128 to 256 to 512 terms, for a whole solve and for the verdict alone; blame on a contradictory full set beside one verdict on
 //! it; and both readers on full texts.
 
+use comparison::memory::Memory;
 use comparison::proved;
 use comparison::sets::{self, Numbers, Set};
 use second_solver::reader::{self, Tables};
-use second_solver::tables::{self, Lent, Outcome};
+use second_solver::tables::{self, Outcome, Proposition, Question, Term};
 use std::hint::black_box;
 use std::time::Instant;
 
-/// Memory to lend for a set.
-struct Memory {
-    representatives: Vec<u32>,
-    offsets: Vec<i64>,
-    marks: Vec<u8>,
-    pair_bits: Vec<u8>,
-    answers: Vec<u8>,
-}
-
-impl Memory {
-    fn of(set: &Set) -> Memory {
-        let cells = set.needed();
-        Memory {
-            representatives: vec![0; cells[0]],
-            offsets: vec![0; cells[1]],
-            marks: vec![0; cells[2]],
-            pair_bits: vec![0; cells[3]],
-            answers: vec![0; cells[4]],
-        }
-    }
-
-    fn lent(&mut self) -> Lent<'_> {
-        Lent {
-            representatives: &mut self.representatives,
-            offsets: &mut self.offsets,
-            marks: &mut self.marks,
-            pair_bits: &mut self.pair_bits,
-            answers: &mut self.answers,
-        }
-    }
-
-    fn blamed(&self) -> usize {
-        self.marks.iter().filter(|&&mark| mark == 1).count()
-    }
+fn memory(set: &Set) -> Memory {
+    Memory::new(&mut Numbers(7), set.needed())
 }
 
 /// Seconds of the fastest of 20 calls, and the outcome. Fewer calls once they have taken a second.
@@ -76,7 +45,7 @@ fn family(name: &str, build: fn(&mut Numbers, usize) -> Set) {
         let mut r = Numbers(7);
         let mut set = build(&mut r, size);
         sets::questions(&mut r, &mut set, size);
-        let (input, mut memory) = (set.input(), Memory::of(&set));
+        let (input, mut memory) = (set.input(), memory(&set));
         let theirs = fastest(|| tables::solve(&input, &mut memory.lent()));
         let ours = fastest(|| proved::solve(&input, &mut memory.lent()));
         let (whole, seconds, outcome) = beside(ours, theirs, last[0]);
@@ -122,7 +91,7 @@ fn median(calls: usize, mut call: impl FnMut()) -> f64 {
 
 /// Blame on a contradictory full set, beside one verdict on it. Blame makes a verdict for the set and one for each proposition.
 fn blame(name: &str, set: &Set) {
-    let mut memory = Memory::of(set);
+    let mut memory = memory(set);
     let verdict = proved::verdict(&set.input());
     let one = median(101, || {
         black_box(proved::verdict(black_box(&set.input())));
@@ -139,12 +108,16 @@ fn blame(name: &str, set: &Set) {
 /// Both readers on a text that fills all tables.
 fn reading(name: &str, set: &Set) {
     let text = set.text();
-    let mut lent = proved::padded(Tables::default(), 512);
-    let counts = proved::read(&text, &mut lent);
+    let mut lent = Tables {
+        terms: vec![Term::default(); 512],
+        propositions: vec![Proposition::default(); 512],
+        questions: vec![Question::default(); 512],
+    };
+    let counts = proved::read(&text, &mut proved::room(&mut lent));
     assert_eq!(counts, Ok([512, 512, 512]));
     assert_eq!(reader::read(&text, [512; 3]), Ok(lent.clone()));
     let ours = median(101, || {
-        black_box(proved::read(black_box(&text), &mut lent)).ok();
+        black_box(proved::read(black_box(&text), &mut proved::room(&mut lent))).ok();
     });
     let theirs = median(101, || {
         black_box(reader::read(black_box(&text), [512; 3])).ok();

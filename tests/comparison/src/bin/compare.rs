@@ -1,76 +1,30 @@
-//! Compares the proved solver with the second solver: 20,000 small sets, whole and damaged, and 200 full sets. Every returned value
-//! and every lent cell is compared, with 3 cells beyond what is lent to hold guard values; so is the verdict alone. Then both readers on
-//! 20,000 small texts, whole and damaged, and 20 full ones. Last line: "N passed, M failed".
+//! Compares the proved solver with the second solver: small sets, whole, damaged and with odd values in every field, and full sets.
+//! Every returned value and every lent cell is compared, and so are the cells before those lent, the tables and the verdict alone; past
+//! each table and lent array is a closed page. Then both readers on small texts, whole and damaged, and full ones. Last line:
+//! "N passed, M failed".
 
+use comparison::memory::{Held, Memory};
+use comparison::odd::{self, Field};
 use comparison::proved;
 use comparison::sets::{self, Numbers, Set};
 use second_solver::reader::{self, Tables};
-use second_solver::tables::{self, Input, Lent, Outcome};
+use second_solver::tables::{self, Input, Lent, Outcome, Proposition, Question, Term};
 
-const GUARD: usize = 3;
+/// The stack that a call needs at most, as the header states.
+const STACK: usize = 128 * 1024;
+/// Most failures that are shown.
+const SHOWN: usize = 5;
 
-#[derive(Clone, PartialEq)]
-struct Memory {
-    representatives: Vec<u32>,
-    offsets: Vec<i64>,
-    marks: Vec<u8>,
-    pair_bits: Vec<u8>,
-    answers: Vec<u8>,
-}
-
-fn memory(r: &mut Numbers, cells: [usize; 5]) -> Memory {
-    let mut bytes = |n: usize| (0..n + GUARD).map(|_| r.next() as u8).collect::<Vec<u8>>();
-    Memory {
-        marks: bytes(cells[2]),
-        pair_bits: bytes(cells[3]),
-        answers: bytes(cells[4]),
-        representatives: (0..cells[0] + GUARD).map(|_| r.next() as u32).collect(),
-        offsets: (0..cells[1] + GUARD).map(|_| r.next() as i64).collect(),
+/// The proved solver and the verdict alone; for full sets on the stack that the header states.
+fn solve_proved(input: &Input, lent: &mut Lent) -> [Outcome; 2] {
+    let mut call = || [proved::solve(input, lent), proved::verdict(input)];
+    if input.n != 512 {
+        return call();
     }
-}
-
-fn run(solve: fn(&Input, &mut Lent) -> Outcome, set: &Set, cells: [usize; 5], memory: &mut Memory) -> Outcome {
-    let mut lent = Lent {
-        representatives: &mut memory.representatives[..cells[0]],
-        offsets: &mut memory.offsets[..cells[1]],
-        marks: &mut memory.marks[..cells[2]],
-        pair_bits: &mut memory.pair_bits[..cells[3]],
-        answers: &mut memory.answers[..cells[4]],
-    };
-    solve(&set.input(), &mut lent)
-}
-
-/// The proved solver on a stack of 128 KiB, as the header states.
-fn run_in_128_kib(set: &Set, cells: [usize; 5], memory: &mut Memory) -> Outcome {
     std::thread::scope(|scope| {
-        let call = || run(proved::solve, set, cells, memory);
-        let thread = std::thread::Builder::new().stack_size(128 * 1024).spawn_scoped(scope, call);
+        let thread = std::thread::Builder::new().stack_size(STACK).spawn_scoped(scope, call);
         thread.expect("a thread").join().expect("an outcome")
     })
-}
-
-/// Whether both solvers return and leave the same; `more` cells are lent beyond what is needed.
-fn agree(r: &mut Numbers, set: &Set, more: usize) -> (bool, Outcome) {
-    let mut cells = set.needed();
-    for k in 0..5 {
-        cells[k] = if set.missing[k] == 0 { cells[k] + more } else { cells[k].saturating_sub(set.missing[k]) };
-    }
-    let mut left = memory(r, cells);
-    let before = left.clone();
-    let mut right = left.clone();
-    let a = if set.n < 512 { run(proved::solve, set, cells, &mut left) } else { run_in_128_kib(set, cells, &mut left) };
-    let b = run(tables::solve, set, cells, &mut right);
-    let refused = matches!(a, Outcome::Refused { .. });
-    let unchanged = !refused || left == before;
-    let alone = proved::verdict(&set.input()) == if refused { without_questions(r, set) } else { b };
-    (a == b && left == right && unchanged && alone, a)
-}
-
-/// What the second solver returns for the set without its questions, with enough memory.
-fn without_questions(r: &mut Numbers, set: &Set) -> Outcome {
-    let set = Set { q: 0, missing: [0; 5], ..set.clone() };
-    let cells = set.needed();
-    run(tables::solve, &set, cells, &mut memory(r, cells))
 }
 
 /// Damages a text in one place; some damages leave it acceptable.
@@ -91,22 +45,21 @@ fn damage_text(r: &mut Numbers, text: &mut Vec<u8>) {
     }
 }
 
-/// Whether both readers answer and leave the same and hand back the same part, with the number of the refusal or 0.
-fn texts_agree(text: &[u8], cells: usize) -> (bool, usize) {
-    let before = proved::padded(Tables::default(), cells);
-    let mut lent = before.clone();
-    let ours = proved::read(text, &mut lent);
-    let part = proved::faulty_line(text, [cells; 3]);
-    match reader::read(text, [cells; 3]) {
-        Ok(tables) => {
-            let counts = [tables.term_kind.len(), tables.proposition_kind.len(), tables.question_left.len()];
-            (ours == Ok(counts) && lent == proved::padded(tables, cells) && part == (0..0), 0)
-        }
-        Err(refusal) => {
-            let told = Err((refusal.number, usize::from(refusal.frame)));
-            (ours == told && lent == before && part == refusal.part, usize::from(refusal.number))
-        }
-    }
+/// Tables of so many records with any content.
+fn any_tables(r: &mut Numbers, room: [usize; 3]) -> Tables {
+    let mut tables = Tables::default();
+    tables.terms.resize_with(room[0], || Term { kind: r.next(), number: r.next(), offset: r.next() as i64 });
+    tables.propositions.resize_with(room[1], || Proposition { kind: r.next(), left: r.next(), offset: r.next() as i64, right: r.next() });
+    tables.questions.resize_with(room[2], || Question { left: r.next(), offset: r.next() as i64, right: r.next() });
+    tables
+}
+
+/// What a reader leaves that finds the tables in lent ones.
+fn written(found: &Tables, mut lent: Tables) -> Tables {
+    lent.terms[..found.terms.len()].copy_from_slice(&found.terms);
+    lent.propositions[..found.propositions.len()].copy_from_slice(&found.propositions);
+    lent.questions[..found.questions.len()].copy_from_slice(&found.questions);
+    lent
 }
 
 fn full(r: &mut Numbers, k: usize) -> Set {
@@ -123,10 +76,7 @@ fn full(r: &mut Numbers, k: usize) -> Set {
         let (left, offset, right) = (r.below(512), r.offset(), r.below(512));
         if set.m == 512 {
             set.m -= 1;
-            set.proposition_kind.pop();
-            set.proposition_left.pop();
-            set.proposition_offset.pop();
-            set.proposition_right.pop();
+            set.propositions.pop();
         }
         set.proposition(0x11, left % set.n, offset, right % set.n);
     }
@@ -138,61 +88,144 @@ fn full(r: &mut Numbers, k: usize) -> Set {
     set
 }
 
-fn main() {
-    let mut r = Numbers(0x9E37_79B9_7F4A_7C15);
-    let (mut passed, mut failed) = (0, 0);
-    let mut verdicts = [0usize; 2];
-    let mut refusals = [0usize; 11];
-    let mut count = |name: &str, k: usize, (same, outcome): (bool, Outcome)| {
-        match outcome {
-            Outcome::Satisfiable => verdicts[0] += 1,
-            Outcome::Contradiction => verdicts[1] += 1,
-            Outcome::Refused { number, .. } => refusals[usize::from(number).min(10)] += 1,
-        }
+#[derive(Default)]
+struct Run {
+    held: Held,
+    passed: usize,
+    failed: usize,
+    verdicts: [usize; 2],
+    refusals: [usize; 11],
+    texts: [usize; 11],
+}
+
+impl Run {
+    fn count(&mut self, same: bool, what: impl Fn() -> String) {
         if same {
-            passed += 1;
+            self.passed += 1;
         } else {
-            failed += 1;
-            println!("{name} set {k}: the solvers differ");
+            self.failed += 1;
+            if self.failed <= SHOWN {
+                println!("FAIL {:.2000}", what());
+            }
         }
-    };
+    }
+
+    /// Something that has to be true of the calls, so that they test what they are meant to.
+    fn show(&mut self, what: &str, shown: bool) {
+        if !shown {
+            self.failed += 1;
+            println!("FAIL the calls do not show: {what}");
+        }
+    }
+
+    /// Both solvers on a set, with `more` cells lent beyond what is needed. Returns the number of the refusal or 0.
+    fn set(&mut self, r: &mut Numbers, name: &str, set: &Set, more: usize) -> usize {
+        let mut cells = set.needed();
+        for k in 0..5 {
+            cells[k] = if set.missing[k] == 0 { cells[k] + more } else { cells[k].saturating_sub(set.missing[k]) };
+        }
+        let before = Memory::new(r, cells);
+        let (mut left, mut right) = (before.clone(), before.clone());
+        let (ours, tables_kept) = self.held.solve(&set.input(), &mut left, solve_proved);
+        let theirs = tables::solve(&set.input(), &mut right.lent());
+        let number = match theirs {
+            Outcome::Refused { number, .. } => usize::from(number),
+            Outcome::Satisfiable => (self.verdicts[0] += 1, 0).1,
+            Outcome::Contradiction => (self.verdicts[1] += 1, 0).1,
+        };
+        self.refusals[number] += 1;
+        let alone = tables::verdict_only(&Input { q: 0, ..set.input() });
+        let same = ours == [theirs, alone] && left == right && tables_kept && (number == 0 || left == before);
+        self.count(same, || format!("{name} set: {ours:?} and not {:?}, of {set:?}", [theirs, alone]));
+        number
+    }
+
+    /// Odd values in one field, each in a few sets.
+    fn odd(&mut self, r: &mut Numbers, field: Field) {
+        let mut numbers = [0; 11];
+        for k in 0..8 * odd::VALUES {
+            let set = odd::one(r, field, k % odd::VALUES);
+            numbers[self.set(r, "odd", &set, 0)] += 1;
+        }
+        let [accepted, _, _, _, four, five, six, seven, _, nine, _] = numbers;
+        println!("{:<26} {accepted:>8} {four:>4} {five:>4} {six:>4} {seven:>4} {nine:>4}", field.name());
+        let only = [4, 6, 7, 9].iter().all(|&number| number == field.refusal() || numbers[number] == 0);
+        self.show("the refusal of the field, often", numbers[field.refusal()] > 3 * odd::VALUES);
+        self.show("no other refusal", only || field.name().ends_with("kind"));
+    }
+
+    /// Both readers on a text, with room for so many records.
+    fn text(&mut self, r: &mut Numbers, text: &[u8], room: [usize; 3]) {
+        let before = any_tables(r, room);
+        let mut lent = before.clone();
+        let ((ours, part), text_kept) =
+            self.held.read(text, &mut lent, |text, tables| (proved::read(text, tables), proved::faulty_line(text, room)));
+        let (same, number) = match reader::read(text, room) {
+            Ok(tables) => {
+                let counts = [tables.terms.len(), tables.propositions.len(), tables.questions.len()];
+                (ours == Ok(counts) && lent == written(&tables, before) && part == (0..0), 0)
+            }
+            Err(refusal) => {
+                let told = Err((refusal.number, usize::from(refusal.frame)));
+                (ours == told && lent == before && part == refusal.part, usize::from(refusal.number))
+            }
+        };
+        self.texts[number] += 1;
+        self.count(same && text_kept, || format!("text: {ours:?}, of {}", text.escape_ascii()));
+    }
+}
+
+fn compare_sets(run: &mut Run, r: &mut Numbers) {
     for k in 0..20_000 {
-        let mut set = sets::small(&mut r);
+        let mut set = sets::small(r);
         if k % 3 == 0 {
-            sets::damage(&mut r, &mut set);
+            sets::damage(r, &mut set);
         }
         let more = r.below(3);
-        count("small", k, agree(&mut r, &set, more));
+        run.set(r, "small", &set, more);
+    }
+    println!("{:<26} {:>8} {:>4} {:>4} {:>4} {:>4} {:>4}", "odd values in", "accepted", 4, 5, 6, 7, 9);
+    for field in odd::fields() {
+        run.odd(r, field);
+    }
+    for k in 0..20_000 {
+        let mut set = sets::small(r);
+        odd::several(r, &mut set);
+        if k % 4 == 0 {
+            sets::damage(r, &mut set);
+        }
+        run.set(r, "several odd", &set, 0);
     }
     for k in 0..200 {
-        let set = full(&mut r, k);
-        count("full", k, agree(&mut r, &set, 0));
+        let mut set = full(r, k);
+        run.set(r, "full", &set, 0);
+        odd::several(r, &mut set);
+        run.set(r, "full odd", &set, 0);
     }
-    println!("satisfiable {}, contradictory {}, refused by number {:?}", verdicts[0], verdicts[1], &refusals[1..]);
-    // every number that tables can be refused with has to occur
-    for (number, times) in refusals.iter().enumerate().take(10).skip(1) {
-        if *times == 0 {
-            failed += 1;
-            println!("refusal {number} did not occur");
-        }
+    println!("satisfiable {}, contradictory {}, refused by number {:?}", run.verdicts[0], run.verdicts[1], &run.refusals[1..]);
+    for number in 1..10 {
+        run.show(&format!("refusal {number}"), run.refusals[number] > 0);
     }
-    let mut texts = [0usize; 11];
+}
+
+fn compare_texts(run: &mut Run, r: &mut Numbers) {
     for k in 0..20_020 {
-        let set = if k < 20 { sets::long_lines(&mut r, 512, k % 4 < 2) } else { sets::small(&mut r) };
+        let set = if k < 20 { sets::long_lines(r, 512, k % 4 < 2) } else { sets::small(r) };
         let mut text = set.text();
         if k % 2 == 1 {
-            damage_text(&mut r, &mut text);
+            damage_text(r, &mut text);
         }
-        let (same, number) = texts_agree(&text, if r.one_in(50) { 511 } else { 512 });
-        texts[number] += 1;
-        if same {
-            passed += 1;
-        } else {
-            failed += 1;
-            println!("text {k}: the readers differ");
-        }
+        let room = [0; 3].map(|_| if r.one_in(100) { 511 } else { 512 + r.below(3) });
+        run.text(r, &text, room);
     }
-    println!("texts accepted {}, refused by number {:?}", texts[0], &texts[1..]);
-    println!("{passed} passed, {failed} failed");
-    std::process::exit(i32::from(failed > 0));
+    println!("texts accepted {}, refused by number {:?}", run.texts[0], &run.texts[1..]);
+}
+
+fn main() {
+    let mut r = Numbers(0x9E37_79B9_7F4A_7C15);
+    let mut run = Run::default();
+    compare_sets(&mut run, &mut r);
+    compare_texts(&mut run, &mut r);
+    println!("{} passed, {} failed", run.passed, run.failed);
+    std::process::exit(i32::from(run.failed > 0));
 }

@@ -13,8 +13,9 @@ use std::hash::{Hash, Hasher};
 
 /// Cells beyond `out`, and bytes before the text.
 const GUARD: usize = 16;
-/// Most failures that are shown.
+/// The stack that a call needs at most, as the header states.
 const STACK: usize = 192 * 1024;
+/// Most failures that are shown.
 const SHOWN: usize = 5;
 /// What stands in memory after the text: a reader that goes too far would find the end of a line or another frame.
 const AFTER: [&[u8]; 4] = [b"\n0000000000000000000", b"020FED\n020FEE\n", b"210000000000000000\n", b"0\n0\n0\n0\n0\n"];
@@ -36,8 +37,8 @@ struct Run {
     largest: usize,
 }
 
-/// The proved function; for longer texts on a stack of 192 KiB, as the header states.
-fn output_in_128_kib(text: &[u8], out: &mut [u8]) -> usize {
+/// The proved function; for longer texts on the stack that the header states.
+fn output_proved(text: &[u8], out: &mut [u8]) -> usize {
     if text.len() < 4096 {
         return proved::output(text, out);
     }
@@ -76,7 +77,7 @@ impl Run {
         self.out.copy_from_slice(before);
         let around = [&[b'\n'; GUARD], text, AFTER[self.calls / 2 % AFTER.len()]].concat();
         let memory = around.clone();
-        let written = output_in_128_kib(&memory[GUARD..GUARD + text.len()], &mut self.out[..length]);
+        let written = output_proved(&memory[GUARD..GUARD + text.len()], &mut self.out[..length]);
         if memory != around {
             return Err("the text, or what stands around it, is changed".into());
         }

@@ -4,7 +4,8 @@ use mir.Syntax.{w64}
 use mir.ValLaws.{toZ-ofZ}
 use borrow.Author.Needs.{needs, sfits-of}
 use borrow.Author.Tests.{eq-eqb, ne-eqb}
-use Rattle.offsets.specs.Fits.{within-sum, within-fits}
+use Rattle.integers.specs.Within.{within-sum}
+use Rattle.offsets.specs.Fits.{within-fits}
 use Rattle.closure.specs.Verdict.{holds}
 use Rattle.consistency.proofs.facts.holds.Statement.{statement}
 use Rattle.consistency.proofs.facts.holds.Tie as tie

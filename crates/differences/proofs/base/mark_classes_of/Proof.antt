@@ -1,11 +1,11 @@
 -- `differences::base::mark_classes_of` meets its contract. The invariant: the first j terms are done.
-use Prim.Native.Nat.{_-_, _^_}
+use Prim.Native.Nat.{_-_}
 use mathlib.Core.Path.{sym, _∙_}
 use native.Mathlib.Omega.{arith}
 use denote.Ref.{now}
 use borrow.Author.Tests.{not-true, not-false}
 use Rattle.labels.specs.View.{view}
-use Rattle.differences.specs.Bounds.{within-zero}
+use Rattle.integers.specs.Within.{within-zero}
 use Rattle.differences.specs.Marks.{Marking, marking-start, marking-more, marking-skip, marking-done, adds-as, false-true}
 use Rattle.differences.specs.Base.{ClassPair}
 use Rattle.differences.proofs.base.mark_classes_of.Statement.{statement}
@@ -22,7 +22,7 @@ loop-holds c = marking-start (now (c .before .before .before .args .pairs))
 
 classes-differ-requires : tie.Need-classes-differ-requires Inv-loop μ-loop
 classes-differ-requires c κs = let s = c .before .before .before .before .before in
-    (s .pre .0, (record { few = s .pre .0 .classes .few; left = s .pre .1 .0; right = c .loop-test .taken }, (within-zero (2 ^ 41), s .pre .1 .1 .0)))
+    (s .pre .0, (record { few = s .pre .0 .classes .few; left = s .pre .1 .0; right = c .loop-test .taken }, (within-zero, s .pre .1 .1 .0)))
 
 add-j : tie.Need-add-j Inv-loop μ-loop
 add-j c = omega arith

@@ -1,5 +1,5 @@
 -- `differences::base::mark_disequalities` meets its contract. The invariant: the first k propositions are done.
-use Prim.Native.Nat.{_-_, _^_}
+use Prim.Native.Nat.{_-_}
 use mathlib.Core.Path.{_≡_, sym, _∙_}
 use native.Mathlib.Omega.{arith}
 use lib.Dec.{lit≤}
@@ -11,10 +11,11 @@ use mir.Val.{toZ, ofZ}
 use denote.Ref.{now}
 use borrow.Author.Needs.{sfits-of}
 use borrow.Author.Tests.{eqb-true, eqb-false, not-true, not-false}
+use Rattle.labels.specs.Spread.{far}
 use Rattle.labels.specs.View.{view}
 use Rattle.closure.specs.Differences.{otherOffset}
 use Rattle.tables.specs.Records.{disequalityKind}
-use Rattle.differences.specs.Bounds.{within-more}
+use Rattle.integers.specs.Within.{within-more}
 use Rattle.differences.specs.Ranges.{sides-placed}
 use Rattle.differences.specs.Marks.{Marking, marking-start, marking-more, marking-skip, marking-done, adds-as, false-true}
 use Rattle.differences.specs.Base.{UnequalPair}
@@ -65,7 +66,7 @@ other-offset-requires c κs = let s = c .before .before .before .before .before 
     record {
       left = rw (c .before .before .term-at .ensures) (p .left);
       right = rw (c .term-at2 .ensures) (p .right);
-      near = rw (toZ-ofZ w64 (c .before .offset-at .result) (sfits-of (c .before .offset-at .ok))) (within-more (2 ^ 41) (c .before .offset-at .ensures .1) (lit≤ tt));
+      near = rw (toZ-ofZ w64 (c .before .offset-at .result) (sfits-of (c .before .offset-at .ok))) (within-more far (c .before .offset-at .ensures .1) (lit≤ tt));
     }
 
 add-k-2 : tie.Need-add-k-2 Inv-loop μ-loop

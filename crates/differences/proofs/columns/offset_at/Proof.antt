@@ -7,7 +7,7 @@ use mir.ValLaws.{toZ-ofZ}
 use denote.Ref.{now}
 use borrow.Author.Needs.{sfits-of}
 use borrow.Author.Needs.{needs}
-use Rattle.differences.specs.Bounds.{fits-within}
+use Rattle.offsets.specs.Fits.{fits-within}
 use Rattle.differences.proofs.columns.offset_at.Statement.{statement}
 use Rattle.differences.proofs.columns.offset_at.Tie as tie
 

@@ -5,7 +5,8 @@ use mir.Syntax.{w64}
 use mir.ValLaws.{toZ-ofZ}
 use borrow.Author.Needs.{sfits-of}
 use borrow.Author.Needs.{needs}
-use Rattle.differences.specs.Bounds.{reach, within-more, difference-fits}
+use Rattle.integers.specs.Within.{within-more}
+use Rattle.offsets.specs.Fits.{reach, difference-fits}
 use Rattle.differences.proofs.labelling.distance.Statement.{statement}
 use Rattle.differences.proofs.labelling.distance.Tie as tie
 

@@ -5,7 +5,8 @@ use lib.Dec.{lit≤}
 use mir.Syntax.{w64}
 use mir.ValLaws.{toZ-ofZ}
 use borrow.Author.Needs.{sfits-of}
-use Rattle.differences.specs.Bounds.{reach, within-more, within-sum, sum-fits, difference-fits}
+use Rattle.integers.specs.Within.{within-more, within-sum}
+use Rattle.offsets.specs.Fits.{reach, sum-fits, difference-fits}
 use Rattle.differences.proofs.labelling.moved_offset.Statement.{statement}
 use Rattle.differences.proofs.labelling.moved_offset.Tie as tie
 

@@ -12,7 +12,7 @@ use borrow.Author.Needs.{sfits-of}
 use borrow.Author.Tests.{not-true, not-false}
 use borrow.Author.Needs.{needs}
 use Rattle.closure.specs.Differences.{movedTo, classesOf}
-use Rattle.differences.specs.Bounds.{within-difference}
+use Rattle.integers.specs.Within.{within-difference}
 use Rattle.differences.proofs.labelling.moved_to.Statement.{statement}
 use Rattle.differences.proofs.labelling.moved_to.Tie as tie
 

@@ -1,15 +1,15 @@
 -- `reader::load::take_line` meets its contract: the refusal, or the stored record, is that of the definition's step.
 use mathlib.Core.Path.{sym, _∙_}
 use borrow.Author.Tests.{not-true, not-false}
-use Rattle.reader.specs.Columns.{listing-written}
 use Rattle.text.specs.Laws.{step-unended}
+use Rattle.reader.specs.Rows.{listing-rows-with}
 use Rattle.reader.specs.Loading.{step-refused, went}
 use borrow.Author.Needs.{needs}
 use Rattle.reader.proofs.load.take_line.Statement.{statement}
 use Rattle.reader.proofs.load.take_line.Tie as tie
 
 returns : tie.Need-returns
-returns c R C room n e = rw (not-true (c .before .before .before .before .before .before .before .before .before .args .ended) (c .if1 .taken)) (step-unended R _)
+returns c R C room n e = rw (not-true (c .before .before .args .ended) (c .if1 .taken)) (step-unended R _)
 
 judge-line-requires : tie.Need-judge-line-requires
 judge-line-requires c κs = search needs
@@ -24,19 +24,19 @@ enum-told : tie.Need-enum-told
 enum-told c = search needs
 
 store-requires : tie.Need-store-requires
-store-requires c κs = (rw (c .before .before .before .before .before .before .before .before .before .before .enum-told .given .1) at (c .before .before .before .before .before .before .before .before .before .before .before .before .take-frame .ensures .room), c .before .before .before .before .before .before .before .before .before .before .before .before .before .before .before .before .before .before .before .before .before .before .before .before .before .pre)
+store-requires c κs = (rw (c .before .before .before .enum-told .given .1) at (c .before .before .before .before .before .take-frame .ensures .room), c .before .before .before .before .before .before .before .before .before .before .pre)
 
 same-length : tie.Need-same-length
 same-length c = search needs
 
-same-length-2 : tie.Need-same-length-2
-same-length-2 c = search needs
-
 returns-2 : tie.Need-returns-2
 returns-2 c R C room n e =
-    let frame = c .before .before .before .before .before .before .judge-line in
-    let t = c .before .before .before .take-frame .ensures .fault R n (listing-written R C e) in
-    rw (not-false (c .before .before .before .before .before .before .before .before .before .before .before .before .before .before .before .before .args .ended) (c .before .before .before .before .before .before .before .if1 .left)) (step-refused R _ (frame .result) (frame .ensures) _ (sym (c .before .refusal .given .1) ∙ t))
+    let frame = c .before .before .before .before .before .judge-line in
+    let t = c .before .before .before .take-frame .ensures .fault R n (listing-rows-with R C e) in
+    rw (not-false (c .before .before .before .before .before .before .before .before .args .ended) (c .before .before .before .before .before .before .if1 .left)) (step-refused R _ (frame .result) (frame .ensures) _ (sym (c .before .refusal .given .1) ∙ t))
+
+same-length-2 : tie.Need-same-length-2
+same-length-2 c = search needs
 
 same-length-3 : tie.Need-same-length-3
 same-length-3 c = search needs
@@ -44,42 +44,18 @@ same-length-3 c = search needs
 same-length-4 : tie.Need-same-length-4
 same-length-4 c = search needs
 
-same-length-5 : tie.Need-same-length-5
-same-length-5 c = search needs
-
-same-length-6 : tie.Need-same-length-6
-same-length-6 c = search needs
-
-same-length-7 : tie.Need-same-length-7
-same-length-7 c = search needs
-
-same-length-8 : tie.Need-same-length-8
-same-length-8 c = search needs
-
-same-length-9 : tie.Need-same-length-9
-same-length-9 c = search needs
-
-same-length-10 : tie.Need-same-length-10
-same-length-10 c = search needs
-
-same-length-11 : tie.Need-same-length-11
-same-length-11 c = search needs
-
-same-length-12 : tie.Need-same-length-12
-same-length-12 c = search needs
-
 returns-3 : tie.Need-returns-3
 returns-3 c R C room n e =
-    let at-store = c .before .before .before .before .before .before .before .before .before .before .before .before .before .before .before .before .before in
-    let told = at-store .before .before .before .before .before .before .before .before .before .before .before in
+    let stored = c .before .before .before in
+    let told = stored .before .before .before .before in
     let took = told .before .before .take-frame .ensures in
-    let judged = told .before .before .before .before .before .judge-line in
-    let start = told .before .before .before .before .before .before .before .before .before .before .before .before .before .before .before in
-    rw (not-false (start .args .ended) (told .before .before .before .before .before .before .if1 .left))
+    let judged = told .before .before .before .before .judge-line in
+    let start = told .before .before .before .before .before .before .before in
+    rw (not-false (start .args .ended) (told .before .before .before .before .before .if1 .left))
     (went R C _ (judged .result) (start .args .counts) _ _ _ room n e (judged .ensures)
-    (sym (told .enum-told .given .1) ∙ took .fault R n (listing-written R C e))
+    (sym (told .enum-told .given .1) ∙ took .fault R n (listing-rows-with R C e))
     (rw (told .enum-told .given .1) at (took .room))
-    (at-store .store .ensures))
+    (stored .store .ensures))
 
 pub take-line-spec : {M : Type 1} → statement M
 take-line-spec =
@@ -92,16 +68,8 @@ take-line-spec =
     enum-told
     store-requires
     same-length
-    same-length-2
     returns-2
+    same-length-2
     same-length-3
     same-length-4
-    same-length-5
-    same-length-6
-    same-length-7
-    same-length-8
-    same-length-9
-    same-length-10
-    same-length-11
-    same-length-12
     returns-3)

@@ -26,19 +26,13 @@ enum-told : tie.Need-enum-told
 enum-told c = search needs
 
 returns : tie.Need-returns
-returns c =
-    let t = c .take-term .ensures in
-    rw (c .before .before .frame .given .1) (record { room = t .room; fault = λ R n L. t .fault R _ n L })
+returns c = let t = c .take-term .ensures in rw (c .before .before .frame .given .1) t
 
 returns-2 : tie.Need-returns-2
-returns-2 c =
-    let t = c .take-proposition .ensures in
-    rw (c .before .before .frame2 .given .1) (record { room = t .room; fault = λ R n L. t .fault R _ _ n })
+returns-2 c = let t = c .take-proposition .ensures in rw (c .before .before .frame2 .given .1) (record { room = t .room; fault = λ R n L. t .fault R n })
 
 returns-3 : tie.Need-returns-3
-returns-3 c =
-    let t = c .take-question .ensures in
-    rw (c .before .before .frame3 .given .1) (record { room = t .room; fault = λ R n L. t .fault R _ n })
+returns-3 c = let t = c .take-question .ensures in rw (c .before .before .frame3 .given .1) (record { room = t .room; fault = λ R n L. t .fault R n })
 
 returns-4 : tie.Need-returns-4
 returns-4 c = rw (c .enum-told .given .1) (record { room = tt; fault = λ R n L. refl })

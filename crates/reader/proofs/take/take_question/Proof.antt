@@ -4,6 +4,7 @@ use borrow.Author.Tests.{le-leb, lt-leb}
 use lib.ListN.{length}
 use Rattle.tables.specs.Refusals.{questionNameFault}
 use Rattle.text.specs.Reading.{frameFault}
+use borrow.Author.Needs.{needs}
 use Rattle.reader.proofs.take.take_question.Statement.{statement}
 use Rattle.reader.proofs.take.take_question.Tie as tie
 
@@ -12,36 +13,36 @@ unfolding frameFault questionNameFault
 returns c =
     record {
       room = tt;
-      fault = λ R z n.
+      fault = λ R n.
           simp (le-leb 512 (length (R .questions)) (omega arith));
     }
+
+is-unlisted-requires : tie.Need-is-unlisted-requires
+is-unlisted-requires c κs = search needs
+
+is-unlisted-requires-2 : tie.Need-is-unlisted-requires-2
+is-unlisted-requires-2 c κs = search needs
 
 returns-2 : tie.Need-returns-2
 unfolding frameFault questionNameFault
 returns-2 c =
     record {
       room = tt;
-      fault = λ R z n.
-          simp (lt-leb 512 (length (R .questions)) (omega arith), le-leb (length (R .terms)) (c .before .before .before .before .args .left) (omega arith));
+      fault = λ R n.
+          let u = rw (c .before .before .is-unlisted .ensures, c .before .is-unlisted2 .ensures, n .terms) at (c .if2 .taken) in
+          simp (lt-leb 512 (length (R .questions)) (omega arith), u);
     }
 
 returns-3 : tie.Need-returns-3
 unfolding frameFault questionNameFault
 returns-3 c =
     record {
-      room = tt;
-      fault = λ R z n.
-          simp (lt-leb 512 (length (R .questions)) (omega arith), lt-leb (length (R .terms)) (c .before .before .before .before .before .before .args .left) (omega arith), le-leb (length (R .terms)) (c .before .before .before .before .before .before .args .right) (omega arith));
-    }
-
-returns-4 : tie.Need-returns-4
-unfolding frameFault questionNameFault
-returns-4 c =
-    record {
       room = omega arith;
-      fault = λ R z n.
-          simp (lt-leb 512 (length (R .questions)) (omega arith), lt-leb (length (R .terms)) (c .before .before .before .before .before .before .args .left) (omega arith), lt-leb (length (R .terms)) (c .before .before .before .before .before .before .args .right) (omega arith));
+      fault = λ R n.
+          let u = rw (c .before .before .is-unlisted .ensures, c .before .is-unlisted2 .ensures, n .terms) at (c .if2 .left) in
+          simp (lt-leb 512 (length (R .questions)) (omega arith), u);
     }
 
 pub take-question-spec : {M : Type 1} → statement M
-take-question-spec = tie.close (tie.spec returns returns-2 returns-3 returns-4)
+take-question-spec =
+    tie.close (tie.spec returns is-unlisted-requires is-unlisted-requires-2 returns-2 returns-3)

@@ -1,109 +1,93 @@
--- `reader::take::take_term` meets its contract: each return rewrites the definition with the tests that led there.
-use mathlib.Core.Path.{_≡_, sym, _∙_}
-use mathlib.Core.Bool.{false, _||_}
+-- `reader::take::take_term` meets its contract: each return follows from the tests that led there.
+use mathlib.Core.Path.{sym, _∙_}
+use mathlib.Core.Bool.{true, false}
 use native.Mathlib.Omega.{arith}
-use borrow.Author.Tests.{le-leb, lt-leb, eq-eqb, ne-eqb, not-true, not-false}
-use lib.Dec.{eqb}
+use borrow.Author.Tests.{le-leb, not-true, not-false}
 use lib.ListN.{length}
-use Rattle.tables.specs.Records.{TermRecord}
-use Rattle.tables.specs.Refusals.{termNameFault}
 use Rattle.text.specs.Reading.{frameFault}
-use Rattle.reader.specs.Taking.{empty, nonempty, atom-repeated, no-atom}
+use Rattle.reader.specs.Taking.{empty, nonempty, inner-unlisted, inner-listed, no-inner}
 use borrow.Author.Needs.{needs}
 use Rattle.reader.proofs.take.take_term.Statement.{statement}
 use Rattle.reader.proofs.take.take_term.Tie as tie
 
 returns : tie.Need-returns
-unfolding frameFault termNameFault
+unfolding frameFault
 returns c =
     record {
       room = tt;
-      fault = λ R z n L.
+      fault = λ R n L.
           simp (nonempty (R .propositions) (omega arith));
     }
 
 returns-2 : tie.Need-returns-2
-unfolding frameFault termNameFault
+unfolding frameFault
 returns-2 c =
     record {
       room = tt;
-      fault = λ R z n L.
+      fault = λ R n L.
           simp (empty (R .propositions) (omega arith), nonempty (R .questions) (omega arith));
     }
 
 returns-3 : tie.Need-returns-3
-unfolding frameFault termNameFault
+unfolding frameFault
 returns-3 c =
     record {
       room = tt;
-      fault = λ R z n L.
+      fault = λ R n L.
           simp (empty (R .propositions) (omega arith), empty (R .questions) (omega arith), le-leb 512 (length (R .terms)) (omega arith));
     }
 
+is-unlisted-requires : tie.Need-is-unlisted-requires
+is-unlisted-requires c κs = search needs
+
 returns-4 : tie.Need-returns-4
-unfolding frameFault termNameFault
 returns-4 c =
     record {
       room = tt;
-      fault = λ R z n L.
-          let a = c .before .before .before .before .before .before .before .before .before .before .before .args in
-          simp (empty (R .propositions) (omega arith), empty (R .questions) (omega arith), lt-leb 512 (length (R .terms)) (omega arith), eq-eqb (a .kind) 3 (c .before .before .if4 .taken), le-leb (length (R .terms)) (a .number) (omega arith));
+      fault = λ R n L.
+          rw (inner-unlisted R (c .before .before .before .before .before .before .before .before .before .before .args .t) (omega arith) (omega arith) (omega arith) (c .before .before .if4 .taken) (rw (← n .terms) (sym (c .before .is-unlisted .ensures) ∙ c .if5 .taken)));
     }
 
 returns-5 : tie.Need-returns-5
-unfolding frameFault termNameFault
 returns-5 c =
     record {
       room = omega arith;
-      fault = λ R z n L.
-          let a = c .before .before .before .before .before .before .before .before .before .before .before .args in
-          let r : TermRecord = record { kind = a .kind; number = a .number; offset = z } in
-          let e : (eqb (a .kind) 1 || eqb (a .kind) 2) ≡ false = rw (c .before .before .if4 .taken) in
-          simp (empty (R .propositions) (omega arith), empty (R .questions) (omega arith), lt-leb 512 (length (R .terms)) (omega arith), eq-eqb (a .kind) 3 (c .before .before .if4 .taken), lt-leb (length (R .terms)) (a .number) (omega arith), no-atom r (R .terms) e);
+      fault = λ R n L.
+          rw (inner-listed R (c .before .before .before .before .before .before .before .before .before .before .args .t) (omega arith) (omega arith) (omega arith) (c .before .before .if4 .taken) (rw (← n .terms) (sym (c .before .is-unlisted .ensures) ∙ c .if5 .left)));
     }
 
 is-atom-requires : tie.Need-is-atom-requires
 is-atom-requires c κs = search needs
 
 returns-6 : tie.Need-returns-6
-unfolding frameFault termNameFault
 returns-6 c =
     record {
       room = omega arith;
-      fault = λ R z n L.
-          let a = c .before .before .before .before .before .before .before .before .before .before .before .args in
-          let r : TermRecord = record { kind = a .kind; number = a .number; offset = z } in
-          let e = not-true (c .before .is-atom .result) (c .if6 .taken) in
-          simp (empty (R .propositions) (omega arith), empty (R .questions) (omega arith), lt-leb 512 (length (R .terms)) (omega arith), ne-eqb (a .kind) 3 (c .before .before .if4 .left), no-atom r (R .terms) (sym (c .before .is-atom .ensures) ∙ e));
+      fault = λ R n L.
+          rw (no-inner R (c .before .before .before .before .before .before .before .before .before .before .args .t) (omega arith) (omega arith) (omega arith) (c .before .before .if4 .left) false (sym (c .before .is-atom .ensures) ∙ not-true (c .before .is-atom .result) (c .if6 .taken)));
     }
 
 listed-requires : tie.Need-listed-requires
 listed-requires c κs = search needs
 
 returns-7 : tie.Need-returns-7
-unfolding frameFault termNameFault
 returns-7 c =
     record {
       room = tt;
-      fault = λ R z n L.
-          let a = c .before .before .before .before .before .before .before .before .before .before .before .before .before .args in
-          let r : TermRecord = record { kind = a .kind; number = a .number; offset = z } in
-          let e = not-false (c .before .before .before .is-atom .result) (c .before .before .if6 .left) in
-          let l = c .before .listed .ensures (R .terms) (omega arith) L in
-          simp (empty (R .propositions) (omega arith), empty (R .questions) (omega arith), lt-leb 512 (length (R .terms)) (omega arith), ne-eqb (a .kind) 3 (c .before .before .before .before .if4 .left), atom-repeated r (R .terms) (sym (c .before .before .before .is-atom .ensures) ∙ e), sym l ∙ c .if7 .taken);
+      fault = λ R n L.
+          let a = c .before .before .before .is-atom in
+          let e = not-false (a .result) (c .before .before .if6 .left) in
+          rw (no-inner R (c .before .before .before .before .before .before .before .before .before .before .before .before .args .t) (omega arith) (omega arith) (omega arith) (c .before .before .before .before .if4 .left) true (sym (a .ensures) ∙ e), sym (c .before .listed .ensures (R .terms) (n .terms) L) ∙ c .if7 .taken);
     }
 
 returns-8 : tie.Need-returns-8
-unfolding frameFault termNameFault
 returns-8 c =
     record {
       room = omega arith;
-      fault = λ R z n L.
-          let a = c .before .before .before .before .before .before .before .before .before .before .before .before .before .args in
-          let r : TermRecord = record { kind = a .kind; number = a .number; offset = z } in
-          let e = not-false (c .before .before .before .is-atom .result) (c .before .before .if6 .left) in
-          let l = c .before .listed .ensures (R .terms) (omega arith) L in
-          simp (empty (R .propositions) (omega arith), empty (R .questions) (omega arith), lt-leb 512 (length (R .terms)) (omega arith), ne-eqb (a .kind) 3 (c .before .before .before .before .if4 .left), atom-repeated r (R .terms) (sym (c .before .before .before .is-atom .ensures) ∙ e), sym l ∙ c .if7 .left);
+      fault = λ R n L.
+          let a = c .before .before .before .is-atom in
+          let e = not-false (a .result) (c .before .before .if6 .left) in
+          rw (no-inner R (c .before .before .before .before .before .before .before .before .before .before .before .before .args .t) (omega arith) (omega arith) (omega arith) (c .before .before .before .before .if4 .left) true (sym (a .ensures) ∙ e), sym (c .before .listed .ensures (R .terms) (n .terms) L) ∙ c .if7 .left);
     }
 
 pub take-term-spec : {M : Type 1} → statement M
@@ -113,6 +97,7 @@ take-term-spec =
     returns
     returns-2
     returns-3
+    is-unlisted-requires
     returns-4
     returns-5
     is-atom-requires

@@ -1,0 +1,134 @@
+-- The promise of `solve`: how it follows from the tests and from the answers to an accepted set.
+use Prim.Native.Nat.{ℕ, _≤_}
+use mathlib.Core.Path.{_≡_, refl, sym, _∙_, ap}
+use mathlib.Core.List.{List, _++_}
+use mathlib.Core.Option.{Option, none, some}
+use native.Mathlib.Omega.{arith}
+use lib.IntN.{ℤ}
+use lib.ListN.{length, take, drop}
+use lib.Seq.{length-take-le}
+use Rattle.lists.specs.Overwrite.{overwrite}
+use Rattle.types.specs.declared.Solved.{Solved}
+use Rattle.types.specs.declared.Fault.{Fault}
+use Rattle.types.specs.declared.Acceptance.{Acceptance}
+use Rattle.types.specs.declared.Acceptance.the-variants.{Accepted, Refused}
+use Rattle.outcome.specs.PairBits.{pairBytes}
+use Rattle.outcome.specs.Outcome.{Outcome, outcome}
+use Rattle.outcome.specs.Lengths.{Lengths, outcome-lengths}
+use Rattle.tables.specs.Limits.{most}
+use Rattle.tables.specs.Refusals.{orElse}
+use Rattle.tables.specs.TermTable.{length-terms-from}
+use Rattle.tables.specs.PropositionTable.{length-propositions-from}
+use Rattle.tables.specs.QuestionTable.{length-questions-from}
+use Rattle.tables.specs.Sets.{termsIn, propositionsIn}
+use Rattle.tables.specs.TableFaults.{Table, Tables, acceptance, sizesFault, recordsFault, Sized, sized}
+use Rattle.tables.specs.Memory.{Memory, memoryFault, callFault, EnoughFor, enough, memoryWith}
+use Rattle.refusals.specs.FirstFault.{accepts, refuses}
+use Rattle.refusals.specs.Parts.{counted, parts-fault}
+use Rattle.columns.specs.Telling.{questionsIn}
+use Rattle.solver.specs.Call.{termsOf, propositionsOf, questionsOf, run, solvedBy, returned, left, Answered}
+use Rattle.solver.specs.Solving.{Asked, Leaves, Solves}
+use Rattle.solver.specs.Counted.{countedSet, countedQuestions, terms-count, propositions-count, questions-count, counted-terms, counted-propositions, counted-questions, counted-accepted, counted-asked}
+
+-- the first cells of the memory, as many as the counts need
+abbrev pub countedMemory : Tables → Memory → Memory
+countedMemory T M = record {
+  representatives = take (T .terms .count) (M .representatives);
+  offsets = take (T .terms .count) (M .offsets);
+  marks = take (T .propositions .count) (M .marks);
+  pairs = take (pairBytes (T .terms .count)) (M .pairs);
+  answers = take (T .questions .count) (M .answers);
+}
+
+-- and the memory with those cells written
+abbrev pub withCounted : Tables → Memory → Memory → Memory
+withCounted T M N = record {
+  representatives = N .representatives ++ drop (T .terms .count) (M .representatives);
+  offsets = N .offsets ++ drop (T .terms .count) (M .offsets);
+  marks = N .marks ++ drop (T .propositions .count) (M .marks);
+  pairs = N .pairs ++ drop (pairBytes (T .terms .count)) (M .pairs);
+  answers = N .answers ++ drop (T .questions .count) (M .answers);
+}
+
+abbrev countedTables : Tables → Tables
+countedTables T = record { terms = counted (T .terms); propositions = counted (T .propositions); questions = counted (T .questions) }
+
+module _ (T : Tables) (M : Memory) where
+  answered-refused : (f : Fault) → callFault T M ≡ some f → Answered T M M (Solved.Refused f)
+  answered-refused f e = record { returns = rw e; leaves = rw e }
+
+  pub sizes-refused : {f : Fault} → Refused f ≡ acceptance (sizesFault most T) → Answered T M M (Solved.Refused f)
+  unfolding callFault
+  sizes-refused {f} e = answered-refused f (rw (refuses (sizesFault most T) e refl))
+
+  module _ (sizes : Accepted ≡ acceptance (sizesFault most T)) where
+    no-sizes : sizesFault most T ≡ none
+    no-sizes = accepts (sizesFault most T) sizes refl
+
+    pub counts : Sized most T
+    counts = sized most T no-sizes
+
+    pub memory-refused : {f : Fault} → Refused f ≡ acceptance (memoryFault T M) → Answered T M M (Solved.Refused f)
+    unfolding callFault
+    memory-refused {f} e = answered-refused f (rw (no-sizes, refuses (memoryFault T M) e refl))
+
+    module _ (memory : Accepted ≡ acceptance (memoryFault T M)) where
+      no-memory : memoryFault T M ≡ none
+      no-memory = accepts (memoryFault T M) memory refl
+
+      pub room : EnoughFor T M
+      room = enough T M no-memory
+
+      pub records-refused : {f : Fault} → Refused f ≡ acceptance (recordsFault (countedTables T)) → Answered T M M (Solved.Refused f)
+      unfolding callFault
+      records-refused {f} e = answered-refused f (rw (no-sizes, no-memory, sym (parts-fault most T counts) ∙ refuses (recordsFault (countedTables T)) e refl))
+
+      module _ (records : Accepted ≡ acceptance (recordsFault (countedTables T))) where
+        no-records : recordsFault T ≡ none
+        no-records = sym (parts-fault most T counts) ∙ accepts (recordsFault (countedTables T)) records refl
+
+        pub asked : Asked (countedSet T) (countedQuestions T) (countedMemory T M)
+        asked =
+            let n = terms-count T counts in
+            record {
+              accepted = counted-accepted T counts no-records;
+              few-propositions = rw (propositions-count T counts) (counts .few-propositions);
+              accepted-questions = counted-asked T counts no-records;
+              few-questions = rw (questions-count T counts) (counts .few-questions);
+              representatives = length-take-le _ _ (room .representatives) ∙ sym n;
+              offsets = length-take-le _ _ (room .offsets) ∙ sym n;
+              marks = length-take-le _ _ (room .marks) ∙ sym (propositions-count T counts);
+              pairs = length-take-le _ _ (room .pairs) ∙ ap pairBytes (sym n);
+              answers = length-take-le _ _ (room .answers) ∙ sym (questions-count T counts);
+            }
+
+        no-fault : callFault T M ≡ none
+        unfolding callFault
+        no-fault = rw (no-sizes, no-memory, no-records)
+
+        run-is : outcome (termsIn (countedSet T)) (propositionsIn (countedSet T)) (questionsIn (countedQuestions T)) ≡ run T
+        unfolding run
+        run-is = rw (counted-terms T counts, counted-propositions T counts, counted-questions T counts)
+
+        lengths : Lengths (termsOf T) (propositionsOf T) (questionsOf T) (run T)
+        unfolding run
+        lengths = outcome-lengths (termsOf T) (propositionsOf T) (questionsOf T)
+
+        -- cells written in front of the others
+        front : {A : Type 0} (new cells old : List A) (n : ℕ) → cells ≡ new → length new ≡ n → cells ++ drop n old ≡ overwrite new old
+        front new cells old n e l = rw (e, ← l)
+
+        pub answered : (N : Memory) (r : Solved) → Solves (countedSet T) (questionsIn (countedQuestions T)) N r → Answered T M (withCounted T M N) r
+        unfolding memoryWith
+        answered N r S =
+            let L : Leaves (run T) N r = rw run-is at S in
+            let n = length-terms-from (T .terms .count) _ in
+            let reps = front (run T .representatives) (N .representatives) (M .representatives) (T .terms .count) (L .representatives) (lengths .representatives ∙ n) in
+            let offs = front (run T .offsets) (N .offsets) (M .offsets) (T .terms .count) (L .offsets) (lengths .offsets ∙ n) in
+            let marks = front (run T .marks) (N .marks) (M .marks) (T .propositions .count) (L .marks) (lengths .marks ∙ length-propositions-from (T .propositions .count) _) in
+            let pairs = front (run T .pairs) (N .pairs) (M .pairs) (pairBytes (T .terms .count)) (L .pairs) (lengths .pairs ∙ ap pairBytes n) in
+            let answers = front (run T .answers) (N .answers) (M .answers) (T .questions .count) (L .answers) (lengths .answers ∙ length-questions-from (T .questions .count) _) in
+            record {
+              returns = rw no-fault (L .verdict);
+              leaves = rw no-fault (λ i. record { representatives = reps i; offsets = offs i; marks = marks i; pairs = pairs i; answers = answers i });
+            }

@@ -1,0 +1,58 @@
+-- A call of the solver: the set and the questions that its tables hold, what is returned, and every lent cell afterwards.
+use Prim.Native.Nat.{ℕ}
+use mathlib.Core.Path.{_≡_}
+use mathlib.Core.List.{List, []}
+use mathlib.Core.Option.{Option, none, some}
+use Rattle.types.specs.declared.Fault.{Fault}
+use Rattle.types.specs.declared.Solved.{Solved}
+use Rattle.types.specs.declared.Verdict.{Verdict}
+use Rattle.types.specs.declared.Verdict.the-variants.{Satisfiable, Contradiction}
+use Rattle.rules.specs.Terms.{Term, Proposition, Comparison}
+use Rattle.outcome.specs.Outcome.{Outcome, outcome}
+use Rattle.tables.specs.Limits.{most}
+use Rattle.tables.specs.Rows.{Row, termAt, propositionAt, questionAt}
+use Rattle.tables.specs.TermTable.{termsFrom}
+use Rattle.tables.specs.PropositionTable.{propositionsFrom}
+use Rattle.tables.specs.QuestionTable.{questionsFrom}
+use Rattle.tables.specs.TableFaults.{Tables, tablesOf, tablesFault}
+use Rattle.tables.specs.Memory.{Memory, memoryWith, callFault}
+
+-- the set and the questions that accepted tables hold
+abbrev pub termsOf : Tables → List Term
+termsOf T = termsFrom (T .terms .count) (termAt (T .terms .rows))
+
+abbrev pub propositionsOf : Tables → List Proposition
+propositionsOf T = propositionsFrom (T .propositions .count) (propositionAt (T .propositions .rows))
+
+abbrev pub questionsOf : Tables → List Comparison
+questionsOf T = questionsFrom (T .questions .count) (questionAt (T .questions .rows))
+
+unfoldable pub run : Tables → Outcome
+run T = outcome (termsOf T) (propositionsOf T) (questionsOf T)
+
+abbrev pub solvedBy : Verdict → Solved
+solvedBy Satisfiable = Solved.Satisfiable
+solvedBy Contradiction = Solved.Contradiction
+
+-- what a call returns
+abbrev pub returned : Option Fault → Tables → Solved
+returned none T = solvedBy (run T .verdict)
+returned (some f) T = Solved.Refused f
+
+-- and every lent cell afterwards: as it was, if the call is refused
+abbrev pub left : Option Fault → Tables → Memory → Memory
+left none T M = memoryWith (run T) M
+left (some f) T M = M
+
+-- the promise of `solve`: of the memory M before the call and N after it
+pub record Answered (T : Tables) (M N : Memory) (result : Solved) : Type 0 where
+  pub returns : result ≡ returned (callFault T M) T
+  pub leaves : N ≡ left (callFault T M) T M
+
+-- tables without questions
+abbrev pub unasked : ℕ → List Row → ℕ → List Row → Tables
+unasked n terms m propositions = tablesOf n terms m propositions 0 []
+
+-- what `verdict` returns: the first fault of the tables, or the verdict on the set that they hold
+unfoldable pub verdictOf : Tables → Solved
+verdictOf T = returned (tablesFault most T) T
