@@ -1,2 +1,2 @@
 -- What the functions for C return.
-pub mod Numbers
+pub mod Results

@@ -1,6 +1,7 @@
 // The solver, the reader and the program's output for programs in C. The header is include/bucketmonk.h.
 use driver::write_output;
-use reader::ReadResult;
+use numbers::read_number;
+use numbers::solved_number;
 use reader::faulty_part;
 use reader::read;
 use solver::solve;
@@ -8,43 +9,18 @@ use solver::verdict;
 use tables::PropositionRow;
 use tables::QuestionRow;
 use tables::TermRow;
-use types::Refusal;
-use types::Solved;
-use types::refusal_number;
-ghost use Prim.Native.Nat.{_≤_};
 ghost use mathlib.Core.Path.{_≡_};
 ghost use lib.ListN.{length};
 ghost use Rattle.lists.specs.Lent.{before, after};
 ghost use Rattle.lists.specs.Overwrite.{overwrite};
-ghost use Rattle.types.specs.Numbers.{refusalNumber};
 ghost use Rattle.tables.specs.Memory.{memoryOf, callFault};
 ghost use Rattle.tables.specs.TableFaults.{tablesOf};
 ghost use Rattle.solver.specs.Call.{returned, left, unasked, verdictOf};
-ghost use Rattle.reader.specs.Rows.{rows};
+ghost use Rattle.frames.specs.Rows.{rows};
 ghost use Rattle.reader.specs.Answers.{faultyPart};
 ghost use Rattle.driver.specs.Within.{outputWithin};
-ghost use Rattle.bucketmonk_c.specs.Numbers.{solvedNumber, readNumber, ReadAsNumber};
-
-// The number of a refusal, as wide as a result.
-fn number_of(r: Refusal) -> usize
-    ensures { λ k. ⌜ (k ≡ refusalNumber r) × (k ≤ 10) ⌝ }
-{
-    refusal_number(r) as usize
-}
-
-// The number of what a call returns.
-fn solved_number(s: Solved) -> usize
-    ensures { λ k. ⌜ k ≡ solvedNumber s ⌝ }
-{
-    match s {
-        Solved::Satisfiable => 0,
-        Solved::Contradiction => 1,
-        Solved::Refused(fault) => {
-            let refusal = fault.refusal;
-            65536 * number_of(refusal) + fault.place % 65536
-        }
-    }
-}
+ghost use Rattle.numbers.specs.Numbers.{solvedNumber};
+ghost use Rattle.bucketmonk_c.specs.Results.{ReadAsNumber};
 
 // `solve`, with the number of what it returns.
 #[no_mangle]
@@ -98,24 +74,6 @@ pub extern "C" fn bucketmonk_verdict(
 {
     let found = verdict(n, terms, m, propositions);
     solved_number(found)
-}
-
-// The number of what `read` returns.
-fn read_number(r: ReadResult) -> usize
-    ensures { λ k. ⌜ k ≡ readNumber r ⌝ }
-{
-    match r {
-        ReadResult::Accepted(counts) => {
-            let terms = counts.terms % 65536;
-            let propositions = counts.propositions % 65536;
-            let questions = counts.questions % 65536;
-            4294967296 * terms + 65536 * propositions + questions
-        }
-        ReadResult::Refused(fault) => {
-            let refusal = fault.refusal;
-            281474976710656 * number_of(refusal) + fault.place % 281474976710656
-        }
-    }
 }
 
 // `read`, with the number of what it returns.

@@ -41,11 +41,11 @@ pub(crate) enum Met {
 }
 
 // The class and the address that a dereference reads.
-fn address(parents: &mut [u32], offs: &mut [i64], r: TermRecord) -> Root
-    requires { ⌜ Labels (length (now parents)) (now parents) (now offs) × ((r .number < length (now parents)) × Within offsetLimit (r .offset)) ⌝ }
-    ensures { λ at. ⌜ Addressed (before parents) (before offs) (after parents) (after offs) r at ⌝ }
+fn address(parents: &mut [u32], offsets: &mut [i64], r: TermRecord) -> Root
+    requires { ⌜ Labels (length (now parents)) (now parents) (now offsets) × ((r .number < length (now parents)) × Within offsetLimit (r .offset)) ⌝ }
+    ensures { λ at. ⌜ Addressed (before parents) (before offsets) (after parents) (after offsets) r at ⌝ }
 {
-    let inner = find(parents, offs, TermNumber(index(r.number)));
+    let inner = find(parents, offsets, TermNumber(index(r.number)));
     let class = inner.term;
     let offset = sum(r.offset, inner.offset);
     Root {
@@ -55,15 +55,21 @@ fn address(parents: &mut [u32], offs: &mut [i64], r: TermRecord) -> Root
 }
 
 // Whether y is a dereference that reads this address.
-fn reads(terms: &[TermRow], parents: &mut [u32], offs: &mut [i64], y: TermNumber, at: Root) -> bool
-    requires { ⌜ AcceptedTerms (length (now terms)) (termAt (now terms)) × (Labels (length (now terms)) (now parents) (now offs) × (y .0 < length (now terms))) ⌝ }
-    ensures { λ r. ⌜ Reads (termAt (before terms)) (before parents) (before offs) (after parents) (after offs) (y .0) at r ⌝ }
+fn reads(
+    terms: &[TermRow],
+    parents: &mut [u32],
+    offsets: &mut [i64],
+    y: TermNumber,
+    at: Root,
+) -> bool
+    requires { ⌜ AcceptedTerms (length (now terms)) (termAt (now terms)) × (Labels (length (now terms)) (now parents) (now offsets) × (y .0 < length (now terms))) ⌝ }
+    ensures { λ r. ⌜ Reads (termAt (before terms)) (before parents) (before offsets) (after parents) (after offsets) (y .0) at r ⌝ }
 {
     let r = term_at(terms, y);
     if r.kind != DEREF {
         return false;
     }
-    let other = address(parents, offs, r);
+    let other = address(parents, offsets, r);
     if at.term.0 != other.term.0 {
         return false;
     }
@@ -74,23 +80,23 @@ fn reads(terms: &[TermRow], parents: &mut [u32], offs: &mut [i64], y: TermNumber
 fn meet(
     terms: &[TermRow],
     parents: &mut [u32],
-    offs: &mut [i64],
+    offsets: &mut [i64],
     x: TermNumber,
     y: TermNumber,
 ) -> Met
-    requires { ⌜ AcceptedTerms (length (now terms)) (termAt (now terms)) × Labels (length (now terms)) (now parents) (now offs) ⌝ }
+    requires { ⌜ AcceptedTerms (length (now terms)) (termAt (now terms)) × Labels (length (now terms)) (now parents) (now offsets) ⌝ }
     requires { ⌜ (x .0 < length (now terms)) × (y .0 < length (now terms)) ⌝ }
-    ensures { λ r. ⌜ Meeting (length (before terms)) (termAt (before terms)) (before parents) (before offs) (after parents) (after offs) (x .0) (y .0) r ⌝ }
+    ensures { λ r. ⌜ Meeting (length (before terms)) (termAt (before terms)) (before parents) (before offsets) (after parents) (after offsets) (x .0) (y .0) r ⌝ }
 {
     let r = term_at(terms, x);
     if r.kind != DEREF {
         return Met::Nothing;
     }
-    let at = address(parents, offs, r);
-    if !reads(terms, parents, offs, y, at) {
+    let at = address(parents, offsets, r);
+    if !reads(terms, parents, offsets, y, at) {
         return Met::Nothing;
     }
-    match join(parents, offs, x, 0, y) {
+    match join(parents, offsets, x, 0, y) {
         Joining::Joined => Met::Joined,
         Joining::Held => Met::Nothing,
         Joining::Clashed => Met::Clashed,
@@ -101,14 +107,14 @@ fn meet(
 fn lookup(
     terms: &[TermRow],
     parents: &mut [u32],
-    offs: &mut [i64],
+    offsets: &mut [i64],
     notes: &mut [u16],
     start: usize,
     x: TermNumber,
     at: Root,
 ) -> usize
-    requires { ⌜ AcceptedTerms (length (now terms)) (termAt (now terms)) × Labels (length (now terms)) (now parents) (now offs) ⌝ }
-    ensures { λ _. ⌜ Unchanged (before parents) (before offs) (after parents) (after offs) ⌝ }
+    requires { ⌜ AcceptedTerms (length (now terms)) (termAt (now terms)) × Labels (length (now terms)) (now parents) (now offsets) ⌝ }
+    ensures { λ _. ⌜ Unchanged (before parents) (before offsets) (after parents) (after offsets) ⌝ }
 {
     for i in 0..512usize {
         let s = start % 4096 + i;
@@ -121,7 +127,7 @@ fn lookup(
         if terms.len() <= y {
             return 0;
         }
-        if reads(terms, parents, offs, TermNumber(y), at) {
+        if reads(terms, parents, offsets, TermNumber(y), at) {
             return found;
         }
     }
@@ -132,19 +138,19 @@ fn lookup(
 fn merge(
     terms: &[TermRow],
     parents: &mut [u32],
-    offs: &mut [i64],
+    offsets: &mut [i64],
     notes: &mut [u16],
     shifts: &mut [u64],
     x: TermNumber,
     y: TermNumber,
 ) -> bool
-    requires { ⌜ AcceptedTerms (length (now terms)) (termAt (now terms)) × Labels (length (now terms)) (now parents) (now offs) ⌝ }
+    requires { ⌜ AcceptedTerms (length (now terms)) (termAt (now terms)) × Labels (length (now terms)) (now parents) (now offsets) ⌝ }
     requires { ⌜ (x .0 < length (now terms)) × (y .0 < length (now terms)) ⌝ }
-    ensures { λ r. ⌜ Chased (length (before terms)) (termAt (before terms)) (before parents) (before offs) (after parents) (after offs) r ⌝ }
+    ensures { λ r. ⌜ Chased (length (before terms)) (termAt (before terms)) (before parents) (before offsets) (after parents) (after offsets) r ⌝ }
 {
-    let a = find(parents, offs, x);
-    let b = find(parents, offs, y);
-    match meet(terms, parents, offs, x, y) {
+    let a = find(parents, offsets, x);
+    let b = find(parents, offsets, y);
+    match meet(terms, parents, offsets, x, y) {
         Met::Nothing => true,
         Met::Joined => {
             join_uses(notes, shifts, a, b);
@@ -158,21 +164,21 @@ fn merge(
 fn step(
     terms: &[TermRow],
     parents: &mut [u32],
-    offs: &mut [i64],
+    offsets: &mut [i64],
     notes: &mut [u16],
     shifts: &mut [u64],
     x: TermNumber,
 ) -> bool
-    requires { ⌜ AcceptedTerms (length (now terms)) (termAt (now terms)) × (Labels (length (now terms)) (now parents) (now offs) × (x .0 < length (now terms))) ⌝ }
-    ensures { λ r. ⌜ Chased (length (before terms)) (termAt (before terms)) (before parents) (before offs) (after parents) (after offs) r ⌝ }
+    requires { ⌜ AcceptedTerms (length (now terms)) (termAt (now terms)) × (Labels (length (now terms)) (now parents) (now offsets) × (x .0 < length (now terms))) ⌝ }
+    ensures { λ r. ⌜ Chased (length (before terms)) (termAt (before terms)) (before parents) (before offsets) (after parents) (after offsets) r ⌝ }
 {
     let r = term_at(terms, x);
     if r.kind != DEREF {
         return true;
     }
-    let at = address(parents, offs, r);
+    let at = address(parents, offsets, r);
     let start = first_slot(notes, shifts, at);
-    let found = lookup(terms, parents, offs, notes, start, x, at);
+    let found = lookup(terms, parents, offsets, notes, start, x, at);
     if found == 0 {
         return true;
     }
@@ -180,13 +186,13 @@ fn step(
     if terms.len() <= y {
         return true;
     }
-    merge(terms, parents, offs, notes, shifts, x, TermNumber(y))
+    merge(terms, parents, offsets, notes, shifts, x, TermNumber(y))
 }
 
 // Lists the dereferences over each class, and puts all on the stack, the lowest on top.
-fn list_uses(terms: &[TermRow], parents: &mut [u32], offs: &mut [i64], notes: &mut [u16])
-    requires { ⌜ AcceptedTerms (length (now terms)) (termAt (now terms)) × Labels (length (now terms)) (now parents) (now offs) ⌝ }
-    ensures { λ _. ⌜ Unchanged (before parents) (before offs) (after parents) (after offs) ⌝ }
+fn list_uses(terms: &[TermRow], parents: &mut [u32], offsets: &mut [i64], notes: &mut [u16])
+    requires { ⌜ AcceptedTerms (length (now terms)) (termAt (now terms)) × Labels (length (now terms)) (now parents) (now offsets) ⌝ }
+    ensures { λ _. ⌜ Unchanged (before parents) (before offsets) (after parents) (after offsets) ⌝ }
 {
     for k in 0..terms.len() {
         let x = terms.len() - 1 - k;
@@ -194,7 +200,7 @@ fn list_uses(terms: &[TermRow], parents: &mut [u32], offs: &mut [i64], notes: &m
         if r.kind != DEREF {
             continue;
         }
-        let inner = find(parents, offs, TermNumber(index(r.number)));
+        let inner = find(parents, offsets, TermNumber(index(r.number)));
         add_use(notes, inner.term.0, x);
     }
 }
@@ -203,12 +209,12 @@ fn list_uses(terms: &[TermRow], parents: &mut [u32], offs: &mut [i64], notes: &m
 fn chase(
     terms: &[TermRow],
     parents: &mut [u32],
-    offs: &mut [i64],
+    offsets: &mut [i64],
     notes: &mut [u16],
     shifts: &mut [u64],
 ) -> bool
-    requires { ⌜ AcceptedTerms (length (now terms)) (termAt (now terms)) × Labels (length (now terms)) (now parents) (now offs) ⌝ }
-    ensures { λ r. ⌜ Chased (length (before terms)) (termAt (before terms)) (before parents) (before offs) (after parents) (after offs) r ⌝ }
+    requires { ⌜ AcceptedTerms (length (now terms)) (termAt (now terms)) × Labels (length (now terms)) (now parents) (now offsets) ⌝ }
+    ensures { λ r. ⌜ Chased (length (before terms)) (termAt (before terms)) (before parents) (before offsets) (after parents) (after offsets) r ⌝ }
 {
     for _ in 0..8192usize {
         let top = pop(notes);
@@ -219,7 +225,7 @@ fn chase(
         if terms.len() <= x {
             return true;
         }
-        if !step(terms, parents, offs, notes, shifts, TermNumber(x)) {
+        if !step(terms, parents, offsets, notes, shifts, TermNumber(x)) {
             return false;
         }
     }
@@ -227,15 +233,15 @@ fn chase(
 }
 
 // Joins what the last look finds until it finds nothing; or two of one class that differ.
-fn settle(terms: &[TermRow], parents: &mut [u32], offs: &mut [i64]) -> bool
-    requires { ⌜ AcceptedTerms (length (now terms)) (termAt (now terms)) × Labels (length (now terms)) (now parents) (now offs) ⌝ }
-    ensures { λ r. ⌜ Closing (length (before terms)) (termAt (before terms)) (before parents) (before offs) (after parents) (after offs) r ⌝ }
+fn settle(terms: &[TermRow], parents: &mut [u32], offsets: &mut [i64]) -> bool
+    requires { ⌜ AcceptedTerms (length (now terms)) (termAt (now terms)) × Labels (length (now terms)) (now parents) (now offsets) ⌝ }
+    ensures { λ r. ⌜ Closing (length (before terms)) (termAt (before terms)) (before parents) (before offsets) (after parents) (after offsets) r ⌝ }
 {
     loop {
-        flatten(parents, offs);
-        match unequal_pair(terms, parents, offs) {
+        flatten(parents, offsets);
+        match unequal_pair(terms, parents, offsets) {
             Look::Closed => return true,
-            Look::Pair(x, y) => match join(parents, offs, x, 0, y) {
+            Look::Pair(x, y) => match join(parents, offsets, x, 0, y) {
                 Joining::Joined => continue,
                 Joining::Held => return false,
                 Joining::Clashed => return false,
@@ -246,15 +252,15 @@ fn settle(terms: &[TermRow], parents: &mut [u32], offs: &mut [i64]) -> bool
 
 // Joins dereferences of one address until all agree, and leaves the labels in the columns; or finds two of one class that differ.
 // Public for the crate `consistency`.
-pub fn close(terms: &[TermRow], parents: &mut [u32], offs: &mut [i64]) -> bool
-    requires { ⌜ AcceptedTerms (length (now terms)) (termAt (now terms)) × Labels (length (now terms)) (now parents) (now offs) ⌝ }
-    ensures { λ r. ⌜ Closing (length (before terms)) (termAt (before terms)) (before parents) (before offs) (after parents) (after offs) r ⌝ }
+pub fn close(terms: &[TermRow], parents: &mut [u32], offsets: &mut [i64]) -> bool
+    requires { ⌜ AcceptedTerms (length (now terms)) (termAt (now terms)) × Labels (length (now terms)) (now parents) (now offsets) ⌝ }
+    ensures { λ r. ⌜ Closing (length (before terms)) (termAt (before terms)) (before parents) (before offsets) (after parents) (after offsets) r ⌝ }
 {
     let mut notes = [0u16; 8192];
     let mut shifts = [0u64; MOST];
-    list_uses(terms, parents, offs, &mut notes);
-    if !chase(terms, parents, offs, &mut notes, &mut shifts) {
+    list_uses(terms, parents, offsets, &mut notes);
+    if !chase(terms, parents, offsets, &mut notes, &mut shifts) {
         return false;
     }
-    settle(terms, parents, offs)
+    settle(terms, parents, offsets)
 }

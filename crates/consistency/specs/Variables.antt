@@ -8,6 +8,7 @@ use native.Mathlib.Omega.{arith}
 use lib.ListN.{length, getD, set, length-set, replicate, length-replicate}
 use lib.Seq.{getD-set-same, getD-set-other}
 use Rattle.labels.specs.Relabel.{same-or-not}
+use Rattle.tables.specs.Limits.{most}
 use Rattle.tables.specs.Records.{TermRecord, variableKind}
 use Rattle.consistency.specs.Deciding.{Meets, meet, none-meet}
 
@@ -27,7 +28,7 @@ module _ (n : ℕ) (rec : ℕ → TermRecord) (reps : List ℕ) where
   -- a class is seen if a variable below t is in it, and only then; no two of them are in one
   pub record Seen (seen : List ℕ) (t : ℕ) : Type 0 where
     pub within : t ≤ n
-    pub long : length seen ≡ 512
+    pub long : length seen ≡ most
     pub noted : (c : ℕ) → getD seen c 0 ≢ 0 → VariableIn t c
     pub note : {i : ℕ} → i < t → rec i .kind ≡ variableKind → getD seen (getD reps i 0) 0 ≢ 0
     pub alone : (i j : ℕ) → i < t → j < i → rec i .kind ≡ variableKind → rec j .kind ≡ variableKind → getD reps i 0 ≡ getD reps j 0 → ⊥
@@ -35,11 +36,11 @@ module _ (n : ℕ) (rec : ℕ → TermRecord) (reps : List ℕ) where
   later : {t c : ℕ} → VariableIn t c → VariableIn (t + 1) c
   later v = record { term = v .term; below = omega (arith, v .below); variable = v .variable; class = v .class }
 
-  pub seen-start : Seen (replicate 512 0) 0
+  pub seen-start : Seen (replicate most 0) 0
   seen-start = record {
     within = omega arith;
-    long = length-replicate {A = ℕ} 512 0;
-    noted = λ c m. absurd (m (zeros 512 c));
+    long = length-replicate {A = ℕ} most 0;
+    noted = λ c m. absurd (m (zeros most c));
     note = λ b. absurd (omega arith);
     alone = λ i j b. absurd (omega arith);
   }
@@ -59,7 +60,7 @@ module _ (n : ℕ) (rec : ℕ → TermRecord) (reps : List ℕ) where
 
   module _ {seen : List ℕ} {t c : ℕ} (h : t < n) (v : rec t .kind ≡ variableKind) (e : c ≡ getD reps t 0) where
     -- a variable in a class that is not seen
-    pub seen-variable : c < 512 → getD seen c 0 ≡ 0 → Seen seen t → Seen (set seen c 1) (t + 1)
+    pub seen-variable : c < most → getD seen c 0 ≡ 0 → Seen seen t → Seen (set seen c 1) (t + 1)
     seen-variable few z S = record {
       within = omega arith;
       long = length-set seen c 1 ∙ S .long;

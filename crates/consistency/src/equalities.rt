@@ -22,12 +22,12 @@ fn join_equality(
     propositions: &[PropositionRow],
     marks: &[u8],
     parents: &mut [u32],
-    offs: &mut [i64],
+    offsets: &mut [i64],
     p: PropositionNumber,
 ) -> bool
-    requires { ⌜ AcceptedSet (setOf (now terms) (now propositions)) × Live (setOf (now terms) (now propositions)) (now marks) (now parents) (now offs) ⌝ }
+    requires { ⌜ AcceptedSet (setOf (now terms) (now propositions)) × Live (setOf (now terms) (now propositions)) (now marks) (now parents) (now offsets) ⌝ }
     requires { ⌜ (length (now propositions) ≤ length (now marks)) × (p .0 < length (now propositions)) ⌝ }
-    ensures { λ r. ⌜ Advanced (setOf (before terms) (before propositions)) (before marks) (flat (before parents) (before offs)) (after parents) (after offs) (p .0) r ⌝ }
+    ensures { λ r. ⌜ Advanced (setOf (before terms) (before propositions)) (before marks) (flat (before parents) (before offsets)) (after parents) (after offsets) (p .0) r ⌝ }
 {
     let k = p.0;
     if marks[k] == 0 {
@@ -39,7 +39,7 @@ fn join_equality(
     }
     let a = TermNumber(index(r.left));
     let b = TermNumber(index(r.right));
-    match join(parents, offs, a, r.offset, b) {
+    match join(parents, offsets, a, r.offset, b) {
         Joining::Joined => true,
         Joining::Held => true,
         Joining::Clashed => false,
@@ -52,11 +52,11 @@ pub(crate) fn join_equalities(
     propositions: &[PropositionRow],
     marks: &[u8],
     parents: &mut [u32],
-    offs: &mut [i64],
+    offsets: &mut [i64],
 ) -> bool
-    requires { ⌜ AcceptedSet (setOf (now terms) (now propositions)) × Live (setOf (now terms) (now propositions)) (now marks) (now parents) (now offs) ⌝ }
+    requires { ⌜ AcceptedSet (setOf (now terms) (now propositions)) × Live (setOf (now terms) (now propositions)) (now marks) (now parents) (now offsets) ⌝ }
     requires { ⌜ length (now propositions) ≤ length (now marks) ⌝ }
-    ensures { λ r. ⌜ Equalities (setOf (before terms) (before propositions)) (before marks) (after parents) (after offs) (length (before propositions)) r ⌝ }
+    ensures { λ r. ⌜ Equalities (setOf (before terms) (before propositions)) (before marks) (after parents) (after offsets) (length (before propositions)) r ⌝ }
 {
     for p in 0..propositions.len() {
         if !join_equality(
@@ -64,7 +64,7 @@ pub(crate) fn join_equalities(
             propositions,
             marks,
             parents,
-            offs,
+            offsets,
             PropositionNumber(p),
         ) {
             return false;

@@ -29,29 +29,29 @@ ghost use Rattle.congruence.specs.Labels.{Columns};
 ghost use Rattle.consistency.specs.Deciding.{Judged, Refuted, Meets};
 
 // Whether the labels say a = z + b.
-fn holds(reps: &[u32], offs: &[i64], a: TermNumber, z: i64, b: TermNumber) -> bool
-    requires { ⌜ Columns (now reps) (now offs) × ((a .0 < length (now reps)) × ((b .0 < length (now reps)) × Within far z)) ⌝ }
-    ensures { λ r. ⌜ r ≡ labelsHold (view (before reps) (before offs)) (comparison (a .0) z (b .0)) ⌝ }
+fn holds(representatives: &[u32], offsets: &[i64], a: TermNumber, z: i64, b: TermNumber) -> bool
+    requires { ⌜ Columns (now representatives) (now offsets) × ((a .0 < length (now representatives)) × ((b .0 < length (now representatives)) × Within far z)) ⌝ }
+    ensures { λ r. ⌜ r ≡ labelsHold (view (before representatives) (before offsets)) (comparison (a .0) z (b .0)) ⌝ }
 {
     let i = a.0;
     let j = b.0;
-    if reps[i] != reps[j] {
+    if representatives[i] != representatives[j] {
         return false;
     }
-    is_same(offs[i], sum(z, offs[j]))
+    is_same(offsets[i], sum(z, offsets[j]))
 }
 
 // Whether the labels contradict proposition p, if it is a kept disequality or block disequality.
 fn is_refuted(
     propositions: &[PropositionRow],
     marks: &[u8],
-    reps: &[u32],
-    offs: &[i64],
+    representatives: &[u32],
+    offsets: &[i64],
     p: PropositionNumber,
 ) -> bool
-    requires { ⌜ AcceptedPropositions (length (now reps)) (length (now propositions)) (propositionAt (now propositions)) × Columns (now reps) (now offs) ⌝ }
+    requires { ⌜ AcceptedPropositions (length (now representatives)) (length (now propositions)) (propositionAt (now propositions)) × Columns (now representatives) (now offsets) ⌝ }
     requires { ⌜ (length (now propositions) ≤ length (now marks)) × (p .0 < length (now propositions)) ⌝ }
-    ensures { λ r. ⌜ Judged (propositionAt (before propositions)) (before marks) (view (before reps) (before offs)) (p .0) r ⌝ }
+    ensures { λ r. ⌜ Judged (propositionAt (before propositions)) (before marks) (view (before representatives) (before offsets)) (p .0) r ⌝ }
 {
     let k = p.0;
     if marks[k] == 0 {
@@ -61,10 +61,16 @@ fn is_refuted(
     let left = index(r.left);
     let right = index(r.right);
     if r.kind == DISEQUALITY {
-        return holds(reps, offs, TermNumber(left), r.offset, TermNumber(right));
+        return holds(
+            representatives,
+            offsets,
+            TermNumber(left),
+            r.offset,
+            TermNumber(right),
+        );
     }
     if r.kind == BLOCK_DISEQUALITY {
-        return reps[left] == reps[right];
+        return representatives[left] == representatives[right];
     }
     false
 }
@@ -73,15 +79,21 @@ fn is_refuted(
 pub(crate) fn any_refuted(
     propositions: &[PropositionRow],
     marks: &[u8],
-    reps: &[u32],
-    offs: &[i64],
+    representatives: &[u32],
+    offsets: &[i64],
 ) -> bool
-    requires { ⌜ AcceptedPropositions (length (now reps)) (length (now propositions)) (propositionAt (now propositions)) × Columns (now reps) (now offs) ⌝ }
+    requires { ⌜ AcceptedPropositions (length (now representatives)) (length (now propositions)) (propositionAt (now propositions)) × Columns (now representatives) (now offsets) ⌝ }
     requires { ⌜ length (now propositions) ≤ length (now marks) ⌝ }
-    ensures { λ r. ⌜ Refuted (length (before propositions)) (propositionAt (before propositions)) (before marks) (view (before reps) (before offs)) r ⌝ }
+    ensures { λ r. ⌜ Refuted (length (before propositions)) (propositionAt (before propositions)) (before marks) (view (before representatives) (before offsets)) r ⌝ }
 {
     for p in 0..propositions.len() {
-        if is_refuted(propositions, marks, reps, offs, PropositionNumber(p)) {
+        if is_refuted(
+            propositions,
+            marks,
+            representatives,
+            offsets,
+            PropositionNumber(p),
+        ) {
             return true;
         }
     }
@@ -96,10 +108,10 @@ fn wide(x: u32) -> usize
 }
 
 // Whether two variables are in one class: `seen` is 1 for a class with a variable in it, else 0.
-pub(crate) fn variables_meet(terms: &[TermRow], reps: &[u32]) -> bool
-    requires { ⌜ (length (now terms) ≤ most) × (length (now reps) ≡ length (now terms)) ⌝ }
-    requires { ⌜ ((t : ℕ) → t < length (now reps) → getD (now reps) t 0 < length (now reps)) ⌝ }
-    ensures { λ r. ⌜ Meets (length (before terms)) (termAt (before terms)) (before reps) r ⌝ }
+pub(crate) fn variables_meet(terms: &[TermRow], representatives: &[u32]) -> bool
+    requires { ⌜ (length (now terms) ≤ most) × (length (now representatives) ≡ length (now terms)) ⌝ }
+    requires { ⌜ ((t : ℕ) → t < length (now representatives) → getD (now representatives) t 0 < length (now representatives)) ⌝ }
+    ensures { λ r. ⌜ Meets (length (before terms)) (termAt (before terms)) (before representatives) r ⌝ }
 {
     let mut seen = [0u32; MOST];
     for t in 0..terms.len() {
@@ -107,7 +119,7 @@ pub(crate) fn variables_meet(terms: &[TermRow], reps: &[u32]) -> bool
         if r.kind != VARIABLE {
             continue;
         }
-        let class = wide(reps[t]);
+        let class = wide(representatives[t]);
         if seen[class] != 0 {
             return true;
         }

@@ -23,22 +23,22 @@ pub fn is_consistent(
     terms: &[TermRow],
     propositions: &[PropositionRow],
     marks: &[u8],
-    reps: &mut [u32],
-    offs: &mut [i64],
+    representatives: &mut [u32],
+    offsets: &mut [i64],
 ) -> bool
     requires { ⌜ AcceptedSet (setOf (now terms) (now propositions)) × (length (now propositions) ≤ length (now marks)) ⌝ }
-    requires { ⌜ (length (now reps) ≡ length (now terms)) × (length (now offs) ≡ length (now terms)) ⌝ }
-    ensures { λ r. ⌜ Decided (setOf (before terms) (before propositions)) (before marks) (after reps) (after offs) r ⌝ }
+    requires { ⌜ (length (now representatives) ≡ length (now terms)) × (length (now offsets) ≡ length (now terms)) ⌝ }
+    ensures { λ r. ⌜ Decided (setOf (before terms) (before propositions)) (before marks) (after representatives) (after offsets) r ⌝ }
 {
-    reset(reps, offs);
-    if !join_equalities(terms, propositions, marks, reps, offs) {
+    reset(representatives, offsets);
+    if !join_equalities(terms, propositions, marks, representatives, offsets) {
         return false;
     }
-    if !close(terms, reps, offs) {
+    if !close(terms, representatives, offsets) {
         return false;
     }
-    if any_refuted(propositions, marks, reps, offs) {
+    if any_refuted(propositions, marks, representatives, offsets) {
         return false;
     }
-    !variables_meet(terms, reps)
+    !variables_meet(terms, representatives)
 }

@@ -11,10 +11,10 @@ use Rattle.tables.specs.TableFaults.{tablesFault}
 use Rattle.text.specs.Reading.{Records, Reading, accepted, refused, reading}
 use Rattle.text.specs.Output.{outcomeFrames, refusalFrame, readingFrames, solved}
 use Rattle.text.specs.Sound.{Sound, accepted-sound}
-use Rattle.reader.specs.declared.ReadResult.{ReadResult}
-use Rattle.reader.specs.declared.ReadResult.the-variants.{Accepted, Refused}
-use Rattle.reader.specs.declared.Counts.{Counts}
-use Rattle.reader.specs.Rows.{Rows, rowsWith}
+use Rattle.types.specs.declared.ReadResult.{ReadResult}
+use Rattle.types.specs.declared.ReadResult.the-variants.{Accepted, Refused}
+use Rattle.types.specs.declared.Counts.{Counts}
+use Rattle.frames.specs.Rows.{Rows, rowsWith}
 use Rattle.reader.specs.Loading.{countsOf}
 use Rattle.reader.specs.Answers.{shortRows, readInto, answer, ReadAs}
 use Rattle.reader.specs.Held.{terms-held, propositions-held, questions-held}

@@ -27,7 +27,7 @@ use Rattle.writer.specs.Frames.{setFrames}
 use Rattle.solver.specs.Call.{termsOf, propositionsOf, questionsOf, run, solvedBy, returned, left, Answered}
 
 abbrev pub zeroMemory : Memory
-zeroMemory = memoryOf (replicate 512 0) (replicate 512 (pos 0)) (replicate 512 0) (replicate 32768 0) (replicate 512 0)
+zeroMemory = memoryOf (replicate most 0) (replicate most (pos 0)) (replicate most 0) (replicate 32768 0) (replicate most 0)
 
 pair-bytes-most : (n : ℕ) → n ≤ most → pairBytes n ≤ 32768
 pair-bytes-most n h = let a = mul-le-mul-right n h in let b = mul-le-mul-left most h in omega arith
@@ -56,10 +56,10 @@ module _ (T : Tables) (accepted : tablesFault most T ≡ none) where
 
   enough : EnoughFor T zeroMemory
   enough =
-      let cells = length-replicate {A = ℕ} 512 0 in
+      let cells = length-replicate {A = ℕ} most 0 in
       record {
         representatives = omega (arith, cells, few .few-terms);
-        offsets = omega (arith, length-replicate {A = ℤ} 512 (pos 0), few .few-terms);
+        offsets = omega (arith, length-replicate {A = ℤ} most (pos 0), few .few-terms);
         marks = omega (arith, cells, few .few-propositions);
         pairs = omega (arith, length-replicate {A = ℕ} 32768 0, pair-bytes-most (T .terms .count) (few .few-terms));
         answers = omega (arith, cells, few .few-questions);
@@ -96,19 +96,19 @@ module _ (T : Tables) (accepted : tablesFault most T ≡ none) where
     memory : N ≡ memoryWith (run T) zeroMemory
     memory = a .leaves ∙ ap (λ o. left o T zeroMemory) no-fault
 
-    representatives : N .representatives ≡ overwrite (run T .representatives) (replicate 512 0)
+    representatives : N .representatives ≡ overwrite (run T .representatives) (replicate most 0)
     unfolding memoryWith
     representatives = ap (λ (M : Memory). M .representatives) memory
 
-    offsets : N .offsets ≡ overwrite (run T .offsets) (replicate 512 (pos 0))
+    offsets : N .offsets ≡ overwrite (run T .offsets) (replicate most (pos 0))
     unfolding memoryWith
     offsets = ap (λ (M : Memory). M .offsets) memory
 
-    marks : N .marks ≡ overwrite (run T .marks) (replicate 512 0)
+    marks : N .marks ≡ overwrite (run T .marks) (replicate most 0)
     unfolding memoryWith
     marks = ap (λ (M : Memory). M .marks) memory
 
-    answers : N .answers ≡ overwrite (run T .answers) (replicate 512 0)
+    answers : N .answers ≡ overwrite (run T .answers) (replicate most 0)
     unfolding memoryWith
     answers = ap (λ (M : Memory). M .answers) memory
 

@@ -1,13 +1,13 @@
 // What the program writes for a text: the reader, the solver and the writer one after another.
-use reader::Counts;
-use reader::ReadResult;
 use reader::read;
 use solver::solve;
 use tables::PropositionRow;
 use tables::QuestionRow;
 use tables::TermRow;
+use types::Counts;
 use types::MOST;
 use types::PAIR_BYTES;
+use types::ReadResult;
 use types::Solved;
 use writer::put_contradictory_set;
 use writer::put_refusal;
@@ -23,7 +23,7 @@ ghost use Rattle.tables.specs.TableFaults.{tablesFault};
 ghost use Rattle.text.specs.Reading.{reading};
 ghost use Rattle.text.specs.Output.{outcomeFrames, readingFrames};
 ghost use Rattle.text.specs.OutputSize.{largestOutput};
-ghost use Rattle.reader.specs.Rows.{rows};
+ghost use Rattle.frames.specs.Rows.{rows};
 ghost use Rattle.reader.specs.Passing.{readTables};
 ghost use Rattle.writer.specs.Appended.{Appended};
 ghost use Rattle.solver.specs.Call.{run};

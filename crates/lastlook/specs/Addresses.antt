@@ -141,7 +141,7 @@ pair-below (suc n) {k} h =
     let some : 0 < suc n = omega arith in
     record { some = some; first = div-lt-iff-lt-mul some .1 h; second = mod-lt k some }
 
-pub pairs-few : (n : ℕ) → n ≤ 512 → n * n ≤ 2 ^ 18
+pub pairs-few : (n : ℕ) → n ≤ most → n * n ≤ 2 ^ 18
 pairs-few n h = mul-le-mul h h
 
 -- what is known of a dereference
@@ -155,5 +155,5 @@ module _ {terms : List Row} {reps : List ℕ} {offs : List ℤ} (L : Labelled te
   pub inner-near : Within far (getD offs (termAt terms x .number) (pos 0))
   inner-near = L .near (termAt terms x .number) inner-below
 
-  pub class-below : getD reps (termAt terms x .number) 0 < 512
+  pub class-below : getD reps (termAt terms x .number) 0 < most
   class-below = omega (arith, L .few, L .below (termAt terms x .number) inner-below)

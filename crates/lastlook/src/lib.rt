@@ -2,8 +2,6 @@
 // The dereferences are sorted by class and address. How they are sorted is not relied on: a test of the order carries the proof, and
 // if it should fail, all pairs are looked at.
 
-mod sorting;
-
 use offsets::bits;
 use offsets::is_same;
 use offsets::sum;
@@ -30,6 +28,9 @@ ghost use Rattle.tables.specs.Rows.{termAt};
 ghost use Rattle.lastlook.specs.Addresses.{Labelled, addressOf, Meeting, Unequal, Looked};
 ghost use Rattle.lastlook.specs.Order.{keyOf, wordOf, Tested, Follows, Ordered, Standing};
 
+// A word is a key times this, and the number of a term, which is below it.
+const NUMBERS: u64 = MOST as u64;
+
 // What a look finds: two dereferences of one address with different labels, or none.
 pub enum Look {
     Pair(TermNumber, TermNumber),
@@ -54,43 +55,49 @@ fn is_deref(terms: &[TermRow], x: TermNumber) -> bool
 }
 
 // The class of the term inside the dereference x.
-fn class_of(terms: &[TermRow], reps: &[u32], x: TermNumber) -> u32
-    requires { ⌜ (x .0 < length (now terms)) × (termAt (now terms) (x .0) .number < length (now reps)) ⌝ }
-    ensures { λ r. ⌜ r ≡ getD (before reps) (termAt (before terms) (x .0) .number) 0 ⌝ }
+fn class_of(terms: &[TermRow], representatives: &[u32], x: TermNumber) -> u32
+    requires { ⌜ (x .0 < length (now terms)) × (termAt (now terms) (x .0) .number < length (now representatives)) ⌝ }
+    ensures { λ r. ⌜ r ≡ getD (before representatives) (termAt (before terms) (x .0) .number) 0 ⌝ }
 {
     let inner = index(term_at(terms, x).number);
-    reps[inner]
+    representatives[inner]
 }
 
 // The address that the dereference x reads, as an offset from the representative of the term inside.
-fn address_of(terms: &[TermRow], reps: &[u32], offs: &[i64], x: TermNumber) -> i64
-    requires { ⌜ Labelled (now terms) (now reps) (now offs) ⌝ }
+fn address_of(terms: &[TermRow], representatives: &[u32], offsets: &[i64], x: TermNumber) -> i64
+    requires { ⌜ Labelled (now terms) (now representatives) (now offsets) ⌝ }
     requires { ⌜ (x .0 < length (now terms)) × (termAt (now terms) (x .0) .kind ≡ derefKind) ⌝ }
-    ensures { λ r. ⌜ r ≡ addressOf (termAt (before terms)) (view (before reps) (before offs)) (x .0) ⌝ }
+    ensures { λ r. ⌜ r ≡ addressOf (termAt (before terms)) (view (before representatives) (before offsets)) (x .0) ⌝ }
 {
     let r = term_at(terms, x);
     let inner = index(r.number);
-    sum(r.offset, offs[inner])
+    sum(r.offset, offsets[inner])
 }
 
 // Whether x and y have one label.
-fn same_label(reps: &[u32], offs: &[i64], x: TermNumber, y: TermNumber) -> bool
-    requires { ⌜ length (now offs) ≡ length (now reps) ⌝ }
-    requires { ⌜ (x .0 < length (now reps)) × (y .0 < length (now reps)) ⌝ }
-    ensures { λ r. ⌜ r ≡ holds (view (before reps) (before offs)) (comparison (x .0) (pos 0) (y .0)) ⌝ }
+fn same_label(representatives: &[u32], offsets: &[i64], x: TermNumber, y: TermNumber) -> bool
+    requires { ⌜ length (now offsets) ≡ length (now representatives) ⌝ }
+    requires { ⌜ (x .0 < length (now representatives)) × (y .0 < length (now representatives)) ⌝ }
+    ensures { λ r. ⌜ r ≡ holds (view (before representatives) (before offsets)) (comparison (x .0) (pos 0) (y .0)) ⌝ }
 {
     let i = x.0;
     let j = y.0;
-    if reps[i] != reps[j] {
+    if representatives[i] != representatives[j] {
         return false;
     }
-    is_same(offs[i], offs[j])
+    is_same(offsets[i], offsets[j])
 }
 
 // Whether x and y are dereferences of one address.
-fn same_address(terms: &[TermRow], reps: &[u32], offs: &[i64], x: TermNumber, y: TermNumber) -> bool
-    requires { ⌜ Labelled (now terms) (now reps) (now offs) × ((x .0 < length (now terms)) × (y .0 < length (now terms))) ⌝ }
-    ensures { λ r. ⌜ Meeting (termAt (before terms)) (view (before reps) (before offs)) (x .0) (y .0) r ⌝ }
+fn same_address(
+    terms: &[TermRow],
+    representatives: &[u32],
+    offsets: &[i64],
+    x: TermNumber,
+    y: TermNumber,
+) -> bool
+    requires { ⌜ Labelled (now terms) (now representatives) (now offsets) × ((x .0 < length (now terms)) × (y .0 < length (now terms))) ⌝ }
+    ensures { λ r. ⌜ Meeting (termAt (before terms)) (view (before representatives) (before offsets)) (x .0) (y .0) r ⌝ }
 {
     if !is_deref(terms, x) {
         return false;
@@ -98,24 +105,30 @@ fn same_address(terms: &[TermRow], reps: &[u32], offs: &[i64], x: TermNumber, y:
     if !is_deref(terms, y) {
         return false;
     }
-    if class_of(terms, reps, x) != class_of(terms, reps, y) {
+    if class_of(terms, representatives, x) != class_of(terms, representatives, y) {
         return false;
     }
     is_same(
-        address_of(terms, reps, offs, x),
-        address_of(terms, reps, offs, y),
+        address_of(terms, representatives, offsets, x),
+        address_of(terms, representatives, offsets, y),
     )
 }
 
 // Whether x and y are dereferences of one address with different labels.
-fn is_unequal(terms: &[TermRow], reps: &[u32], offs: &[i64], x: TermNumber, y: TermNumber) -> bool
-    requires { ⌜ Labelled (now terms) (now reps) (now offs) × ((x .0 < length (now terms)) × (y .0 < length (now terms))) ⌝ }
-    ensures { λ r. ⌜ Unequal (termAt (before terms)) (view (before reps) (before offs)) (x .0) (y .0) r ⌝ }
+fn is_unequal(
+    terms: &[TermRow],
+    representatives: &[u32],
+    offsets: &[i64],
+    x: TermNumber,
+    y: TermNumber,
+) -> bool
+    requires { ⌜ Labelled (now terms) (now representatives) (now offsets) × ((x .0 < length (now terms)) × (y .0 < length (now terms))) ⌝ }
+    ensures { λ r. ⌜ Unequal (termAt (before terms)) (view (before representatives) (before offsets)) (x .0) (y .0) r ⌝ }
 {
-    if !same_address(terms, reps, offs, x, y) {
+    if !same_address(terms, representatives, offsets, x, y) {
         return false;
     }
-    !same_label(reps, offs, x, y)
+    !same_label(representatives, offsets, x, y)
 }
 
 // One number for a class and an address: equal for equal ones, and for no others.
@@ -127,18 +140,26 @@ fn key(class: u32, address: i64) -> u64
 }
 
 // The word of the dereference x: its key, and x in the lowest 9 bits.
-fn word(terms: &[TermRow], reps: &[u32], offs: &[i64], x: TermNumber) -> u64
-    requires { ⌜ Labelled (now terms) (now reps) (now offs) ⌝ }
+fn word(terms: &[TermRow], representatives: &[u32], offsets: &[i64], x: TermNumber) -> u64
+    requires { ⌜ Labelled (now terms) (now representatives) (now offsets) ⌝ }
     requires { ⌜ (x .0 < length (now terms)) × (termAt (now terms) (x .0) .kind ≡ derefKind) ⌝ }
-    ensures { λ r. ⌜ r ≡ wordOf (termAt (before terms)) (view (before reps) (before offs)) (x .0) ⌝ }
+    ensures { λ r. ⌜ r ≡ wordOf (termAt (before terms)) (view (before representatives) (before offsets)) (x .0) ⌝ }
 {
-    let k = key(class_of(terms, reps, x), address_of(terms, reps, offs, x));
-    k * 512 + x.0 as u64
+    let k = key(
+        class_of(terms, representatives, x),
+        address_of(terms, representatives, offsets, x),
+    );
+    k * NUMBERS + x.0 as u64
 }
 
 // Lists the words of the dereferences, and returns how many there are.
-fn list_words(terms: &[TermRow], reps: &[u32], offs: &[i64], words: &mut Words) -> usize
-    requires { ⌜ Labelled (now terms) (now reps) (now offs) ⌝ }
+fn list_words(
+    terms: &[TermRow],
+    representatives: &[u32],
+    offsets: &[i64],
+    words: &mut Words,
+) -> usize
+    requires { ⌜ Labelled (now terms) (now representatives) (now offsets) ⌝ }
     ensures { λ r. ⌜ r ≤ most ⌝ }
 {
     let mut count = 0;
@@ -146,7 +167,7 @@ fn list_words(terms: &[TermRow], reps: &[u32], offs: &[i64], words: &mut Words) 
         if !is_deref(terms, TermNumber(x)) {
             continue;
         }
-        words[count] = word(terms, reps, offs, TermNumber(x));
+        words[count] = word(terms, representatives, offsets, TermNumber(x));
         count += 1;
     }
     count
@@ -157,7 +178,7 @@ fn note_places(words: &Words, count: usize, places: &mut [usize; MOST])
     requires { ⌜ count ≤ most ⌝ }
 {
     for i in 0..count {
-        let x = index(words[i] % 512);
+        let x = index(words[i] % NUMBERS);
         places[x] = i;
     }
 }
@@ -165,14 +186,14 @@ fn note_places(words: &Words, count: usize, places: &mut [usize; MOST])
 // Whether each dereference's word stands at its noted place.
 fn all_stand(
     terms: &[TermRow],
-    reps: &[u32],
-    offs: &[i64],
+    representatives: &[u32],
+    offsets: &[i64],
     words: &Words,
     count: usize,
     places: &[usize; MOST],
 ) -> bool
-    requires { ⌜ Labelled (now terms) (now reps) (now offs) × (count ≤ most) ⌝ }
-    ensures { λ r. ⌜ Standing (length (before terms)) (termAt (before terms)) (view (before reps) (before offs)) (before words) count r ⌝ }
+    requires { ⌜ Labelled (now terms) (now representatives) (now offsets) × (count ≤ most) ⌝ }
+    ensures { λ r. ⌜ Standing (length (before terms)) (termAt (before terms)) (view (before representatives) (before offsets)) (before words) count r ⌝ }
 {
     for x in 0..terms.len() {
         if !is_deref(terms, TermNumber(x)) {
@@ -182,7 +203,7 @@ fn all_stand(
         if count <= i {
             return false;
         }
-        if words[i] != word(terms, reps, offs, TermNumber(x)) {
+        if words[i] != word(terms, representatives, offsets, TermNumber(x)) {
             return false;
         }
     }
@@ -190,28 +211,40 @@ fn all_stand(
 }
 
 // Tests whether word b follows word a.
-fn compare(terms: &[TermRow], reps: &[u32], offs: &[i64], a: u64, b: u64) -> Neighbours
-    requires { ⌜ Labelled (now terms) (now reps) (now offs) ⌝ }
-    ensures { λ r. let P = view (before reps) (before offs) in ⌜ Tested (length (before terms)) (termAt (before terms)) P (Follows P a b) r ⌝ }
+fn compare(
+    terms: &[TermRow],
+    representatives: &[u32],
+    offsets: &[i64],
+    a: u64,
+    b: u64,
+) -> Neighbours
+    requires { ⌜ Labelled (now terms) (now representatives) (now offsets) ⌝ }
+    ensures { λ r. let P = view (before representatives) (before offsets) in ⌜ Tested (length (before terms)) (termAt (before terms)) P (Follows P a b) r ⌝ }
 {
-    if a / 512 < b / 512 {
+    if a / NUMBERS < b / NUMBERS {
         return Neighbours::Agree;
     }
-    if b / 512 < a / 512 {
+    if b / NUMBERS < a / NUMBERS {
         return Neighbours::Unordered;
     }
-    let x = index(a % 512);
-    let y = index(b % 512);
+    let x = index(a % NUMBERS);
+    let y = index(b % NUMBERS);
     if terms.len() <= x {
         return Neighbours::Unordered;
     }
     if terms.len() <= y {
         return Neighbours::Unordered;
     }
-    if same_label(reps, offs, TermNumber(x), TermNumber(y)) {
+    if same_label(representatives, offsets, TermNumber(x), TermNumber(y)) {
         return Neighbours::Agree;
     }
-    if is_unequal(terms, reps, offs, TermNumber(x), TermNumber(y)) {
+    if is_unequal(
+        terms,
+        representatives,
+        offsets,
+        TermNumber(x),
+        TermNumber(y),
+    ) {
         return Neighbours::Pair(TermNumber(x), TermNumber(y));
     }
     Neighbours::Unordered
@@ -220,16 +253,16 @@ fn compare(terms: &[TermRow], reps: &[u32], offs: &[i64], a: u64, b: u64) -> Nei
 // Tests whether each word follows the one before it.
 fn compare_all(
     terms: &[TermRow],
-    reps: &[u32],
-    offs: &[i64],
+    representatives: &[u32],
+    offsets: &[i64],
     words: &Words,
     count: usize,
 ) -> Neighbours
-    requires { ⌜ Labelled (now terms) (now reps) (now offs) × (count ≤ most) ⌝ }
-    ensures { λ r. let P = view (before reps) (before offs) in ⌜ Tested (length (before terms)) (termAt (before terms)) P (Ordered P (before words) count) r ⌝ }
+    requires { ⌜ Labelled (now terms) (now representatives) (now offsets) × (count ≤ most) ⌝ }
+    ensures { λ r. let P = view (before representatives) (before offsets) in ⌜ Tested (length (before terms)) (termAt (before terms)) P (Ordered P (before words) count) r ⌝ }
 {
     for i in 1..count {
-        match compare(terms, reps, offs, words[i - 1], words[i]) {
+        match compare(terms, representatives, offsets, words[i - 1], words[i]) {
             Neighbours::Pair(x, y) => return Neighbours::Pair(x, y),
             Neighbours::Unordered => return Neighbours::Unordered,
             Neighbours::Agree => continue,
@@ -239,15 +272,21 @@ fn compare_all(
 }
 
 // Looks at all pairs.
-fn look_at_all(terms: &[TermRow], reps: &[u32], offs: &[i64]) -> Look
-    requires { ⌜ Labelled (now terms) (now reps) (now offs) ⌝ }
-    ensures { λ r. ⌜ Looked (length (before terms)) (termAt (before terms)) (view (before reps) (before offs)) r ⌝ }
+fn look_at_all(terms: &[TermRow], representatives: &[u32], offsets: &[i64]) -> Look
+    requires { ⌜ Labelled (now terms) (now representatives) (now offsets) ⌝ }
+    ensures { λ r. ⌜ Looked (length (before terms)) (termAt (before terms)) (view (before representatives) (before offsets)) r ⌝ }
 {
     let n = terms.len();
     for k in 0..n * n {
         let x = k / n;
         let y = k % n;
-        if is_unequal(terms, reps, offs, TermNumber(x), TermNumber(y)) {
+        if is_unequal(
+            terms,
+            representatives,
+            offsets,
+            TermNumber(x),
+            TermNumber(y),
+        ) {
             return Look::Pair(TermNumber(x), TermNumber(y));
         }
     }
@@ -257,38 +296,38 @@ fn look_at_all(terms: &[TermRow], reps: &[u32], offs: &[i64]) -> Look
 // Looks at neighbours only, if the words are in order and hold each dereference.
 fn look_by_order(
     terms: &[TermRow],
-    reps: &[u32],
-    offs: &[i64],
+    representatives: &[u32],
+    offsets: &[i64],
     words: &Words,
     count: usize,
     places: &[usize; MOST],
 ) -> Look
-    requires { ⌜ Labelled (now terms) (now reps) (now offs) × (count ≤ most) ⌝ }
-    ensures { λ r. ⌜ Looked (length (before terms)) (termAt (before terms)) (view (before reps) (before offs)) r ⌝ }
+    requires { ⌜ Labelled (now terms) (now representatives) (now offsets) × (count ≤ most) ⌝ }
+    ensures { λ r. ⌜ Looked (length (before terms)) (termAt (before terms)) (view (before representatives) (before offsets)) r ⌝ }
 {
-    match compare_all(terms, reps, offs, words, count) {
+    match compare_all(terms, representatives, offsets, words, count) {
         Neighbours::Pair(x, y) => return Look::Pair(x, y),
-        Neighbours::Unordered => return look_at_all(terms, reps, offs),
+        Neighbours::Unordered => return look_at_all(terms, representatives, offsets),
         Neighbours::Agree => {
-            if all_stand(terms, reps, offs, words, count, places) {
+            if all_stand(terms, representatives, offsets, words, count, places) {
                 return Look::Closed;
             }
-            return look_at_all(terms, reps, offs);
+            return look_at_all(terms, representatives, offsets);
         }
     }
 }
 
 // Two dereferences that read one address and have different labels, the first neighbours in an order of the dereferences by class and
 // address. Public for the crate `consistency`.
-pub fn unequal_pair(terms: &[TermRow], reps: &[u32], offs: &[i64]) -> Look
-    requires { ⌜ Labelled (now terms) (now reps) (now offs) ⌝ }
-    ensures { λ r. ⌜ Looked (length (before terms)) (termAt (before terms)) (view (before reps) (before offs)) r ⌝ }
+pub fn unequal_pair(terms: &[TermRow], representatives: &[u32], offsets: &[i64]) -> Look
+    requires { ⌜ Labelled (now terms) (now representatives) (now offsets) ⌝ }
+    ensures { λ r. ⌜ Looked (length (before terms)) (termAt (before terms)) (view (before representatives) (before offsets)) r ⌝ }
 {
     let mut words = [0u64; MOST];
     let mut spare = [0u64; MOST];
     let mut places = [0usize; MOST];
-    let count = list_words(terms, reps, offs, &mut words);
+    let count = list_words(terms, representatives, offsets, &mut words);
     sort(&mut words, &mut spare, count);
     note_places(&words, count, &mut places);
-    look_by_order(terms, reps, offs, &words, count, &places)
+    look_by_order(terms, representatives, offsets, &words, count, &places)
 }

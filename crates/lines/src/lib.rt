@@ -1,5 +1,4 @@
 // What one line of hexadecimal says, whatever stands in the other lines.
-pub mod digits;
 pub mod line;
 
 use types::PropositionRecord;
@@ -12,10 +11,4 @@ pub enum Frame {
     Proposition(PropositionRecord),
     Question(QuestionRecord),
     Malformed,
-}
-
-// The value of one digit, or of two.
-pub enum Spelled {
-    Value(u8),
-    Bad,
 }

@@ -1,8 +1,8 @@
 // The frame that a line holds, and where a line ends.
 use crate::Frame;
-use crate::digits::decode;
-use crate::digits::number;
-use crate::digits::offset;
+use hexadecimal::decode;
+use hexadecimal::number;
+use hexadecimal::offset;
 use types::AUXILIARY;
 use types::BLOCK_DISEQUALITY;
 use types::DEREF;

@@ -14,12 +14,12 @@ use Rattle.types.specs.declared.Fault.{Fault}
 use Rattle.types.specs.declared.Refusal.the-variants.{TooShort}
 use Rattle.tables.specs.Limits.{most}
 use Rattle.text.specs.Reading.{Records, Reading, accepted, refused, reading, Part, partOf}
-use Rattle.reader.specs.declared.ReadResult.{ReadResult}
-use Rattle.reader.specs.declared.ReadResult.the-variants.{Accepted, Refused}
-use Rattle.reader.specs.declared.Counts.{Counts}
+use Rattle.types.specs.declared.ReadResult.{ReadResult}
+use Rattle.types.specs.declared.ReadResult.the-variants.{Accepted, Refused}
+use Rattle.types.specs.declared.Counts.{Counts}
 use Rattle.reader.specs.declared.FaultyPart.{FaultyPart}
 use Rattle.reader.specs.declared.Loaded.the-variants as loadeds
-use Rattle.reader.specs.Rows.{Rows, RoomForMost, rowsWith}
+use Rattle.frames.specs.Rows.{Rows, RoomForMost, rowsWith}
 use Rattle.reader.specs.Loading.{countsOf, loaded}
 
 -- a table has no room for the most records

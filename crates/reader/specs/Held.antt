@@ -25,7 +25,7 @@ use Rattle.tables.specs.QuestionTable.{asked, questionsFrom}
 use Rattle.lists.specs.Overwrite.{overwrite}
 use Rattle.text.specs.Reading.{Records}
 use Rattle.text.specs.Sound.{Sound}
-use Rattle.reader.specs.Rows.{Rows, asking, rowsWith}
+use Rattle.frames.specs.Rows.{Rows, asking, rowsWith}
 
 -- the offset of a record without fault fits its field
 term-fits : (earlier : List TermRecord) (r : TermRecord) → termFault earlier r ≡ none → SFits w64 (r .offset)

@@ -14,14 +14,14 @@ use Rattle.text.specs.Frames.{frameOf, frameOfBytes}
 use Rattle.text.specs.Reading.{Records, Reading, accepted, refused, Step, refuse, go-on, stepFrame, step, withFrame, reading, partOf}
 use Rattle.lines.specs.declared.Frame.{Frame}
 use Rattle.lines.specs.Meaning.{meaning}
-use Rattle.reader.specs.declared.Counts.{Counts}
-use Rattle.reader.specs.declared.Taken.the-variants as takens
+use Rattle.types.specs.declared.Counts.{Counts}
+use Rattle.frames.specs.declared.Taken.the-variants as takens
 use Rattle.reader.specs.declared.Next.{Next}
 use Rattle.reader.specs.declared.Next.the-variants as nexts
 use Rattle.reader.specs.declared.Loaded.{Loaded}
 use Rattle.reader.specs.declared.Loaded.the-variants as loadeds
-use Rattle.reader.specs.Taking.{Counted, groupCount, taken, frameRefusal}
-use Rattle.reader.specs.Rows.{Rows, RoomForMost, Stored, put, rowsWith, put-rows-with, counted-more}
+use Rattle.frames.specs.Taking.{Counted, groupCount, taken, frameRefusal}
+use Rattle.frames.specs.Rows.{Rows, RoomForMost, Stored, put, rowsWith, put-rows-with, counted-more}
 
 -- an accepted line: the records with it, counted, and in front of the rows C
 pub record Went (C : Rows) (s : Step) (c : Counts) (D : Rows) : Type 0 where

@@ -14,9 +14,9 @@ use Rattle.tables.specs.TableFaults.{Tables, tablesOf, Sized, tablesFault, Acce
 use Rattle.lists.specs.Overwrite.{overwrite, overwrite-covers}
 use Rattle.text.specs.Reading.{Records, Reading, accepted, refused, reading}
 use Rattle.text.specs.Sound.{Sound, accepted-sound}
-use Rattle.reader.specs.declared.ReadResult.the-variants.{Accepted}
-use Rattle.reader.specs.declared.Counts.{Counts}
-use Rattle.reader.specs.Rows.{Rows, rowsWith}
+use Rattle.types.specs.declared.ReadResult.the-variants.{Accepted}
+use Rattle.types.specs.declared.Counts.{Counts}
+use Rattle.frames.specs.Rows.{Rows, rowsWith}
 use Rattle.reader.specs.Loading.{countsOf}
 use Rattle.reader.specs.Answers.{readInto, answer, left, ReadAs, read-into}
 use Rattle.reader.specs.Held.{term-held, proposition-held, question-held, front-held}

@@ -13,11 +13,11 @@ use Rattle.text.specs.Lines.{Line, linesOf}
 use Rattle.text.specs.FrameLaws.{line-framed}
 use Rattle.text.specs.Reading.{Records, nothing, accepted, refused, refuse, go-on, step, readLines, reading, lineStart}
 use Rattle.text.specs.Laws.{step-frame}
-use Rattle.reader.specs.declared.Counts.{Counts}
+use Rattle.types.specs.declared.Counts.{Counts}
 use Rattle.reader.specs.declared.Loaded.the-variants as loadeds
 use Rattle.lines.specs.LineEnds.{linesOf-nil, lineOf, lineEnd, end-after, end-within, linesOf-at}
-use Rattle.reader.specs.Taking.{Counted}
-use Rattle.reader.specs.Rows.{Rows, rowsWith, rows-with-nothing}
+use Rattle.frames.specs.Taking.{Counted}
+use Rattle.frames.specs.Rows.{Rows, rowsWith, rows-with-nothing}
 use Rattle.reader.specs.Loading.{Went, LoadedAs}
 
 -- The k lines before the place `at` are taken into the rows D, which were C.

@@ -1,44 +1,27 @@
 // The reader of paper 01's lines of hexadecimal, into the rows of three tables.
+mod copy;
 mod load;
-mod store;
-mod take;
 
+use copy::copy_rows;
 use load::judge;
 use load::load;
 use tables::PropositionRow;
 use tables::QuestionRow;
 use tables::TermRow;
+use types::Counts;
 use types::Fault;
 use types::MOST;
+use types::ReadResult;
 use types::Refusal;
 ghost use mathlib.Core.Path.{_≡_};
 ghost use Rattle.lists.specs.Lent.{before, after};
-ghost use Rattle.reader.specs.Rows.{rows};
+ghost use Rattle.frames.specs.Rows.{rows};
 ghost use Rattle.reader.specs.Answers.{short, ReadAs, faultyPart, PartAt, HandedBack};
-
-// How many records of each table were read.
-pub struct Counts {
-    pub terms: usize,
-    pub propositions: usize,
-    pub questions: usize,
-}
-
-// The answer of `read`. The place of a fault is the number of its frame.
-pub enum ReadResult {
-    Accepted(Counts),
-    Refused(Fault),
-}
 
 // Where a faulty line stands in a text.
 pub struct FaultyPart {
     pub start: usize,
     pub size: usize,
-}
-
-// What a frame meets after the records read so far.
-pub(crate) enum Taken {
-    Accepted,
-    Refused(Refusal),
 }
 
 // What a line leaves: its refusal, or the counts with its record.
@@ -76,10 +59,26 @@ pub fn read(
             place: 0,
         });
     }
-    match judge(text) {
+    let mut own_terms = [[0u64; 3]; MOST];
+    let mut own_propositions = [[0u64; 4]; MOST];
+    let mut own_questions = [[0u64; 3]; MOST];
+    match load(
+        text,
+        &mut own_terms,
+        &mut own_propositions,
+        &mut own_questions,
+    ) {
         Loaded::Refused(fault, _) => ReadResult::Refused(fault),
         Loaded::Accepted(counts) => {
-            load(text, terms, propositions, questions);
+            copy_rows(
+                counts,
+                &own_terms,
+                &own_propositions,
+                &own_questions,
+                terms,
+                propositions,
+                questions,
+            );
             ReadResult::Accepted(counts)
         }
     }

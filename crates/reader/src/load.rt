@@ -1,21 +1,21 @@
 // The lines of a text, one after another, into rows.
-use crate::Counts;
 use crate::FaultyPart;
 use crate::Loaded;
 use crate::Next;
-use crate::Taken;
-use crate::store::store;
-use crate::take::take_frame;
+use frames::Taken;
+use frames::store::store;
+use frames::take::take_frame;
 use lines::line::judge_line;
 use lines::line::line_end;
 use tables::PropositionRow;
 use tables::QuestionRow;
 use tables::TermRow;
+use types::Counts;
 use types::Fault;
 use types::MOST;
 use types::Refusal;
 ghost use Rattle.lists.specs.Lent.{before, after};
-ghost use Rattle.reader.specs.Rows.{rows, RoomForMost};
+ghost use Rattle.frames.specs.Rows.{rows, RoomForMost};
 ghost use Rattle.reader.specs.Loading.{Lined, JudgedAs, LoadedAs};
 
 // One line after the records read so far, which the rows hold in front.

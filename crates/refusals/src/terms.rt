@@ -2,35 +2,27 @@
 use crate::fields::in_range;
 use offsets::is_same;
 use tables::TermRow;
+use tables::atoms::is_atom;
+use tables::atoms::same_atom;
 use tables::term_at;
 use types::ATOMS;
-use types::AUXILIARY;
 use types::Acceptance;
 use types::DEREF;
 use types::Refusal;
 use types::TermNumber;
 use types::TermRecord;
-use types::VARIABLE;
 use types::refuse;
 ghost use mathlib.Core.Path.{_≡_};
-ghost use mathlib.Core.Bool.{_||_};
-ghost use lib.Dec.{eqb};
 ghost use lib.ListN.{length};
 ghost use Rattle.lists.specs.Lent.{before};
 ghost use Rattle.lists.specs.Search.{isSome};
-ghost use Rattle.tables.specs.Records.{variableKind, auxiliaryKind, termOf, sameAtom};
+ghost use Rattle.tables.specs.Records.{termOf};
 ghost use Rattle.tables.specs.Refusals.{firstFault};
 ghost use Rattle.tables.specs.Rows.{termAt};
 ghost use Rattle.tables.specs.TermTable.{termsFault};
 ghost use Rattle.tables.specs.TableFaults.{acceptance};
 ghost use Rattle.refusals.specs.FirstFault.{judged, placeOr};
 ghost use Rattle.refusals.specs.Terms.{ownFault, ownFaultAt, repeatFaultAt};
-
-fn is_atom(kind: u64) -> bool
-    ensures { λ r. ⌜ r ≡ (eqb kind variableKind || eqb kind auxiliaryKind) ⌝ }
-{
-    (kind == VARIABLE) | (kind == AUXILIARY)
-}
 
 // Whether a record stands for a term.
 fn is_term(r: TermRecord) -> bool
@@ -67,13 +59,6 @@ fn first_own_fault(terms: &[TermRow]) -> Acceptance
         };
     }
     Acceptance::Accepted
-}
-
-// Whether two records are of one atom.
-fn same_atom(a: TermRecord, b: TermRecord) -> bool
-    ensures { λ r. ⌜ r ≡ sameAtom a b ⌝ }
-{
-    is_atom(a.kind) & ((a.kind == b.kind) & (a.number == b.number))
 }
 
 // The place of the first term record that lists an atom again; the number of terms where none does.

@@ -1,11 +1,8 @@
 -- The promises of the solver's functions, and why the code keeps them.
 pub mod Call
 pub mod Counted
-pub mod Cells
 pub mod Solving
-pub mod Kept
 pub mod Verdict
-pub mod Blaming
 pub mod Results
 pub mod Answering
 pub mod Demands

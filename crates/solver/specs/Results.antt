@@ -37,8 +37,8 @@ use Rattle.consistency.specs.Deciding as deciding
 use Rattle.consistency.specs.Deciding.{Decided}
 use Rattle.columns.specs.Telling.{factsIn, pairsBy, answersBy, questionsIn, Labelling}
 use Rattle.solver.specs.Solving.{Asked, Leaves, Solves}
-use Rattle.solver.specs.Kept.{AllKept, isContradictory, kept-listed, set-well-formed, decided-all}
-use Rattle.solver.specs.Blaming.{blameMarks}
+use Rattle.blame.specs.Kept.{AllKept, isContradictory, kept-listed, set-well-formed, decided-all}
+use Rattle.blame.specs.Blaming.{blameMarks}
 
 module _ (S : Set) (good : AcceptedSet S) where
   abbrev ts : List Term

@@ -23,7 +23,7 @@ use Rattle.tables.specs.TableFaults.{Tables, tablesOf, acceptance, lengthsFault
 use Rattle.refusals.specs.FirstFault.{accepts}
 use Rattle.solver.specs.Call.{termsOf, propositionsOf, run, solvedBy, returned, unasked, verdictOf}
 use Rattle.solver.specs.Counted.{countedSet, counted-terms, counted-propositions}
-use Rattle.solver.specs.Kept.{isContradictory}
+use Rattle.blame.specs.Kept.{isContradictory}
 
 -- the verdict on a consistent set, and on one that is not
 abbrev pub verdictIf : Bool → Solved

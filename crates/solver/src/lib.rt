@@ -1,7 +1,6 @@
 // The solver: tables of rows in, every answer of paper 01 out.
 
-mod memory;
-
+use blame::blame_marks;
 use columns::tell_differences;
 use consistency::is_consistent;
 use memory::check_memory;
@@ -15,13 +14,10 @@ use tables::TermRow;
 use types::Acceptance;
 use types::Answer;
 use types::MOST;
-use types::PropositionNumber;
 use types::Solved;
 use types::answer_number;
 use unionfind::reset;
 ghost use mathlib.Core.Path.{_≡_};
-ghost use Prim.Native.Nat.{_<_};
-ghost use lib.ListN.{length, getD};
 ghost use Rattle.lists.specs.Lent.{before, after};
 ghost use Rattle.tables.specs.Sets.{setOf};
 ghost use Rattle.tables.specs.Memory.{memoryOf};
@@ -29,48 +25,6 @@ ghost use Rattle.tables.specs.TableFaults.{tablesOf};
 ghost use Rattle.columns.specs.Telling.{questionsIn};
 ghost use Rattle.solver.specs.Call.{Answered, unasked, verdictOf};
 ghost use Rattle.solver.specs.Solving.{Asked, Solves};
-ghost use Rattle.solver.specs.Kept.{AllKept};
-ghost use Rattle.solver.specs.Blaming.{Labelled, tried, blameMarks};
-
-// Drops proposition p, if those kept without it are contradictory. The labels are memory to work in.
-fn try_drop(
-    terms: &[TermRow],
-    propositions: &[PropositionRow],
-    marks: &mut [u8],
-    reps: &mut [u32],
-    offs: &mut [i64],
-    p: PropositionNumber,
-)
-    requires { ⌜ Labelled (setOf (now terms) (now propositions)) (now marks) (now reps) (now offs) ⌝ }
-    requires { ⌜ (p .0 < length (now propositions)) × (getD (now marks) (p .0) 0 ≡ 1) ⌝ }
-    ensures { λ _. ⌜ after marks ≡ tried (setOf (before terms) (before propositions)) (before marks) (p .0) ⌝ }
-{
-    let k = p.0;
-    marks[k] = 0;
-    if !is_consistent(terms, propositions, marks, reps, offs) {
-        return;
-    }
-    marks[k] = 1;
-}
-
-// Marks the blamed propositions of a contradictory set: from the highest number down, each that can be dropped is.
-fn blame_marks(
-    terms: &[TermRow],
-    propositions: &[PropositionRow],
-    marks: &mut [u8],
-    reps: &mut [u32],
-    offs: &mut [i64],
-)
-    requires { ⌜ Labelled (setOf (now terms) (now propositions)) (now marks) (now reps) (now offs) ⌝ }
-    requires { ⌜ AllKept (now marks) (length (now propositions)) ⌝ }
-    ensures { λ _. ⌜ after marks ≡ blameMarks (setOf (before terms) (before propositions)) ⌝ }
-{
-    let mut k = propositions.len();
-    while 0 < k {
-        k -= 1;
-        try_drop(terms, propositions, marks, reps, offs, PropositionNumber(k));
-    }
-}
 
 // Solves an accepted set in lent memory that has just the cells it needs.
 fn solve_accepted(

@@ -105,6 +105,19 @@ pub enum Solved {
     Refused(Fault),
 }
 
+// How many records of each table a text has.
+pub struct Counts {
+    pub terms: usize,
+    pub propositions: usize,
+    pub questions: usize,
+}
+
+// What a call of the reader returns: the counts of what was read, or the fault, whose place is the number of its frame.
+pub enum ReadResult {
+    Accepted(Counts),
+    Refused(Fault),
+}
+
 // A number in the table of terms.
 pub struct TermNumber(pub usize);
 

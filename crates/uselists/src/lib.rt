@@ -4,26 +4,27 @@
 use offsets::bits;
 use std::num::wrapping_add_u64;
 use std::num::wrapping_sub_u64;
+use types::MOST;
 use unionfind::Root;
 ghost use Prim.Native.Nat.{_<_, _^_};
 
-// The parts of the notes, 512 cells each. The first and the last use of a class and how many it has, the next use after a use; the name
+// The parts of the notes, MOST cells each. The first and the last use of a class and how many it has, the next use after a use; the name
 // of a class in the table of addresses; a stack of uses to look at, and which of them are on it.
 const FIRST: usize = 0;
 
-const NEXT: usize = 512;
+const NEXT: usize = MOST;
 
-const LAST: usize = 1024;
+const LAST: usize = 2 * MOST;
 
-const SIZE: usize = 1536;
+const SIZE: usize = 3 * MOST;
 
-const NAME: usize = 2048;
+const NAME: usize = 4 * MOST;
 
-const STACK: usize = 2560;
+const STACK: usize = 5 * MOST;
 
-const WAITING: usize = 3072;
+const WAITING: usize = 6 * MOST;
 
-const HEIGHT: usize = 3584;
+const HEIGHT: usize = 7 * MOST;
 
 // The table of addresses, in the cells from 4096 on.
 const SLOTS: usize = 4096;
@@ -38,7 +39,7 @@ fn wide(x: u16) -> usize
 fn peek(notes: &[u16], part: usize, i: usize) -> usize
     ensures { λ r. ⌜ r < 2 ^ 16 ⌝ }
 {
-    let k = part % 4096 + i % 512;
+    let k = part % 4096 + i % MOST;
     if k < notes.len() {
         return wide(notes[k]);
     }
@@ -46,7 +47,7 @@ fn peek(notes: &[u16], part: usize, i: usize) -> usize
 }
 
 fn poke(notes: &mut [u16], part: usize, i: usize, value: usize) {
-    let k = part % 4096 + i % 512;
+    let k = part % 4096 + i % MOST;
     if k < notes.len() {
         notes[k] = (value % 65536) as u16;
     }
@@ -66,12 +67,12 @@ pub fn slot(notes: &[u16], s: usize) -> usize
 pub fn set_slot(notes: &mut [u16], s: usize, x: usize) {
     let k = SLOTS + s % 4096;
     if k < notes.len() {
-        notes[k] = (x % 512 + 1) as u16;
+        notes[k] = (x % MOST + 1) as u16;
     }
 }
 
 fn shift(shifts: &[u64], class: usize) -> u64 {
-    let k = class % 512;
+    let k = class % MOST;
     if k < shifts.len() {
         return shifts[k];
     }
@@ -79,7 +80,7 @@ fn shift(shifts: &[u64], class: usize) -> u64 {
 }
 
 fn set_shift(shifts: &mut [u64], class: usize, value: u64) {
-    let k = class % 512;
+    let k = class % MOST;
     if k < shifts.len() {
         shifts[k] = value;
     }
@@ -91,7 +92,7 @@ fn name(notes: &[u16], class: usize) -> usize {
     if named != 0 {
         return named;
     }
-    class % 512 + 1
+    class % MOST + 1
 }
 
 // A slot for a name and a number, multiplied so that near ones lie apart.
@@ -156,7 +157,7 @@ fn link_after(notes: &mut [u16], class: usize, first: usize) {
 
 // Puts the dereference x to the uses of a class and on the stack.
 pub fn add_use(notes: &mut [u16], class: usize, x: usize) {
-    link_after(notes, class, x % 512 + 1);
+    link_after(notes, class, x % MOST + 1);
     let size = peek(notes, SIZE, class);
     poke(notes, LAST, class, x);
     poke(notes, SIZE, class, size + 1);

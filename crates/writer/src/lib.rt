@@ -1,5 +1,6 @@
 // Frames as lines of hexadecimal, written to a buffer from a place on; each function answers the place after what it wrote.
 // Public for the crate `driver`, which knows that the frames fit.
+use hexadecimal::digit_of;
 use offsets::bits;
 use types::Fault;
 use types::PropositionNumber;
@@ -11,18 +12,9 @@ ghost use Prim.Native.Nat.{_+_, _/_, _%_, _^_, _≤_, _<_};
 ghost use lib.ListN.{length};
 ghost use Rattle.lists.specs.Lent.{before, after};
 ghost use Rattle.types.specs.declared.Verdict.the-variants.{Satisfiable, Contradiction};
-ghost use Rattle.text.specs.Lines.{digitOf};
 ghost use Rattle.text.specs.Output.{lineOf, verdictFrame, labelFrame, labelFrames, blameIf, blameFrames, answerFrame, cellFrames, refusalFrame};
 ghost use Rattle.writer.specs.Frames.{cellFrame, setFrames};
 ghost use Rattle.writer.specs.Appended.{Appended};
-
-// The digit of a value below 16.
-fn digit_of(v: u8) -> u8
-    requires { ⌜ v < 16 ⌝ }
-    ensures { λ r. ⌜ r ≡ digitOf v ⌝ }
-{
-    if v < 10 { 48 + v } else { 55 + v }
-}
 
 // Byte k of a number, the lowest first.
 fn byte_of(v: u64, k: u32) -> u8

@@ -1,6 +1,6 @@
 -- `bucketmonk_c::bucketmonk_read` meets its contract.
 use mathlib.Core.Path.{_∙_, ap}
-use Rattle.bucketmonk_c.specs.Numbers.{readNumber}
+use Rattle.numbers.specs.Numbers.{readNumber}
 use borrow.Author.Needs.{needs}
 use Rattle.bucketmonk_c.proofs.bucketmonk_read.Statement.{statement}
 use Rattle.bucketmonk_c.proofs.bucketmonk_read.Tie as tie

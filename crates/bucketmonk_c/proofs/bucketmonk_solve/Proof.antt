@@ -1,6 +1,6 @@
 -- `bucketmonk_c::bucketmonk_solve` meets its contract.
 use mathlib.Core.Path.{_∙_, ap}
-use Rattle.bucketmonk_c.specs.Numbers.{solvedNumber}
+use Rattle.numbers.specs.Numbers.{solvedNumber}
 use borrow.Author.Needs.{needs}
 use Rattle.bucketmonk_c.proofs.bucketmonk_solve.Statement.{statement}
 use Rattle.bucketmonk_c.proofs.bucketmonk_solve.Tie as tie

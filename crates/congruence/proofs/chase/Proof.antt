@@ -11,10 +11,10 @@ use Rattle.congruence.proofs.chase.Statement.{statement}
 use Rattle.congruence.proofs.chase.Tie as tie
 
 abbrev Inv-loop : tie.InvT-loop
-Inv-loop terms parents₀ offs₀ notes₀ shifts₀ counter₀ parents offs notes shifts counter = (counter ≤ 8192) × (Chased (length terms) (termAt terms) parents₀ offs₀ parents offs true × (length offs ≡ length offs₀ × (length notes ≡ length notes₀ × (length shifts ≡ length shifts₀))))
+Inv-loop terms parents₀ offsets₀ notes₀ shifts₀ counter₀ parents offsets notes shifts counter = (counter ≤ 8192) × (Chased (length terms) (termAt terms) parents₀ offsets₀ parents offsets true × (length offsets ≡ length offsets₀ × (length notes ≡ length notes₀ × (length shifts ≡ length shifts₀))))
 
 abbrev μ-loop : tie.MeasureT-loop
-μ-loop terms parents₀ offs₀ notes₀ shifts₀ counter₀ parents offs notes shifts counter = 8192 - counter
+μ-loop terms parents₀ offsets₀ notes₀ shifts₀ counter₀ parents offsets notes shifts counter = 8192 - counter
 
 loop-holds : tie.Need-loop-holds Inv-loop μ-loop
 loop-holds c = let s = (c .before .before .before) in (omega arith, (chased-start (length (s .args .terms .now)) (termAt (s .args .terms .now)) (s .pre .1), (refl, (refl, refl))))

@@ -10,10 +10,10 @@ use Rattle.congruence.proofs.list_uses.Statement.{statement}
 use Rattle.congruence.proofs.list_uses.Tie as tie
 
 abbrev Inv-loop : tie.InvT-loop
-Inv-loop terms parents₀ offs₀ notes₀ k₀ k-end parents offs notes k = (k ≤ length terms) × (Unchanged parents₀ offs₀ parents offs × (length offs ≡ length offs₀ × (length notes ≡ length notes₀)))
+Inv-loop terms parents₀ offsets₀ notes₀ k₀ k-end parents offsets notes k = (k ≤ length terms) × (Unchanged parents₀ offsets₀ parents offsets × (length offsets ≡ length offsets₀ × (length notes ≡ length notes₀)))
 
 abbrev μ-loop : tie.MeasureT-loop
-μ-loop terms parents₀ offs₀ notes₀ k₀ k-end parents offs notes k = length terms - k
+μ-loop terms parents₀ offsets₀ notes₀ k₀ k-end parents offsets notes k = length terms - k
 
 loop-holds : tie.Need-loop-holds Inv-loop μ-loop
 loop-holds c = (omega arith, (unchanged-self ((c .before .before) .pre .1), (refl, refl)))

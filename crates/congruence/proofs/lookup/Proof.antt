@@ -9,10 +9,10 @@ use Rattle.congruence.proofs.lookup.Statement.{statement}
 use Rattle.congruence.proofs.lookup.Tie as tie
 
 abbrev Inv-loop : tie.InvT-loop
-Inv-loop terms parents₀ offs₀ notes₀ start x at i₀ parents offs notes i = (i ≤ 512) × (Unchanged parents₀ offs₀ parents offs × (length offs ≡ length offs₀ × (length notes ≡ length notes₀)))
+Inv-loop terms parents₀ offsets₀ notes₀ start x at i₀ parents offsets notes i = (i ≤ 512) × (Unchanged parents₀ offsets₀ parents offsets × (length offsets ≡ length offsets₀ × (length notes ≡ length notes₀)))
 
 abbrev μ-loop : tie.MeasureT-loop
-μ-loop terms parents₀ offs₀ notes₀ start x at i₀ parents offs notes i = 512 - i
+μ-loop terms parents₀ offsets₀ notes₀ start x at i₀ parents offsets notes i = 512 - i
 
 loop-holds : tie.Need-loop-holds Inv-loop μ-loop
 loop-holds c = (omega arith, (unchanged-self ((c .before .before) .pre .1), (refl, refl)))

@@ -13,10 +13,10 @@ use Rattle.congruence.proofs.settle.Statement.{statement}
 use Rattle.congruence.proofs.settle.Tie as tie
 
 abbrev Inv-loop : tie.InvT-loop
-Inv-loop terms parents₀ offs₀ parents offs = Chased (length terms) (termAt terms) parents₀ offs₀ parents offs true × (length offs ≡ length offs₀)
+Inv-loop terms parents₀ offsets₀ parents offsets = Chased (length terms) (termAt terms) parents₀ offsets₀ parents offsets true × (length offsets ≡ length offsets₀)
 
 abbrev μ-loop : tie.MeasureT-loop
-μ-loop terms parents₀ offs₀ parents offs = weight (length terms) (flat parents offs)
+μ-loop terms parents₀ offsets₀ parents offsets = weight (length terms) (flat parents offsets)
 
 loop-holds : tie.Need-loop-holds Inv-loop μ-loop
 loop-holds c = let s = (c .before) in (chased-start (length (s .args .terms .now)) (termAt (s .args .terms .now)) (s .pre .1), refl)

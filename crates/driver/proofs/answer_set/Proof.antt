@@ -5,7 +5,7 @@ use lib.Seq.{length-take-le}
 use denote.Ref.{now}
 use borrow.Author.Needs.{needs}
 use Rattle.tables.specs.TableFaults.{Tables}
-use Rattle.reader.specs.Rows.{rows}
+use Rattle.frames.specs.Rows.{rows}
 use Rattle.reader.specs.Passing.{readTables}
 use Rattle.driver.specs.Solving.{handed-on, run-size, same-labels, satisfiable-frames, contradiction-frames, never-refused}
 use Rattle.driver.proofs.answer_set.Statement.{statement}

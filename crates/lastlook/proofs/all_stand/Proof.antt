@@ -13,10 +13,10 @@ use Rattle.lastlook.proofs.all_stand.Statement.{statement}
 use Rattle.lastlook.proofs.all_stand.Tie as tie
 
 abbrev Inv-loop : tie.InvT-loop
-Inv-loop terms reps offs words count places x₀ x-end x = (x ≤ length terms) × ((k : ℕ) → k < x → termAt terms k .kind ≡ derefKind → Stands words count (wordOf (termAt terms) (view reps offs) k))
+Inv-loop terms representatives offsets words count places x₀ x-end x = (x ≤ length terms) × ((k : ℕ) → k < x → termAt terms k .kind ≡ derefKind → Stands words count (wordOf (termAt terms) (view representatives offsets) k))
 
 abbrev μ-loop : tie.MeasureT-loop
-μ-loop terms reps offs words count places x₀ x-end x = length terms - x
+μ-loop terms representatives offsets words count places x₀ x-end x = length terms - x
 
 loop-holds : tie.Need-loop-holds Inv-loop μ-loop
 loop-holds c = (omega arith, below-none _)

@@ -10,10 +10,10 @@ use Rattle.lastlook.proofs.compare_all.Statement.{statement}
 use Rattle.lastlook.proofs.compare_all.Tie as tie
 
 abbrev Inv-loop : tie.InvT-loop
-Inv-loop terms reps offs words count i₀ i = (0 < i) × ((k : ℕ) → k < i → 0 < k → Follows (view reps offs) (getD words (k - 1) 0) (getD words k 0))
+Inv-loop terms representatives offsets words count i₀ i = (0 < i) × ((k : ℕ) → k < i → 0 < k → Follows (view representatives offsets) (getD words (k - 1) 0) (getD words k 0))
 
 abbrev μ-loop : tie.MeasureT-loop
-μ-loop terms reps offs words count i₀ i = count - i
+μ-loop terms representatives offsets words count i₀ i = count - i
 
 loop-holds : tie.Need-loop-holds Inv-loop μ-loop
 loop-holds c = (omega arith, λ k l h. absurd (omega arith))

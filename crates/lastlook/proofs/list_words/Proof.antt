@@ -8,10 +8,10 @@ use Rattle.lastlook.proofs.list_words.Statement.{statement}
 use Rattle.lastlook.proofs.list_words.Tie as tie
 
 abbrev Inv-loop : tie.InvT-loop
-Inv-loop terms reps offs words₀ count₀ x₀ x-end words count x = (count ≤ x) × (x ≤ length terms)
+Inv-loop terms representatives offsets words₀ count₀ x₀ x-end words count x = (count ≤ x) × (x ≤ length terms)
 
 abbrev μ-loop : tie.MeasureT-loop
-μ-loop terms reps offs words₀ count₀ x₀ x-end words count x = length terms - x
+μ-loop terms representatives offsets words₀ count₀ x₀ x-end words count x = length terms - x
 
 loop-holds : tie.Need-loop-holds Inv-loop μ-loop
 loop-holds c = omega arith

@@ -11,10 +11,10 @@ use Rattle.lastlook.proofs.look_at_all.Statement.{statement}
 use Rattle.lastlook.proofs.look_at_all.Tie as tie
 
 abbrev Inv-loop : tie.InvT-loop
-Inv-loop terms reps offs n k₀ k-end k = (k ≤ n * n) × ((j : ℕ) → j < k → SameAddress (termAt terms) (view reps offs) (j / n) (j % n) → Holds (view reps offs) (j / n) (pos 0) (j % n))
+Inv-loop terms representatives offsets n k₀ k-end k = (k ≤ n * n) × ((j : ℕ) → j < k → SameAddress (termAt terms) (view representatives offsets) (j / n) (j % n) → Holds (view representatives offsets) (j / n) (pos 0) (j % n))
 
 abbrev μ-loop : tie.MeasureT-loop
-μ-loop terms reps offs n k₀ k-end k = n * n - k
+μ-loop terms representatives offsets n k₀ k-end k = n * n - k
 
 mul-k-end : tie.Need-mul-k-end Inv-loop μ-loop
 mul-k-end c = omega (arith, pairs-few _ (c .before .pre .few))

@@ -2,8 +2,8 @@
 use mathlib.Core.Path.{sym, _∙_}
 use native.Mathlib.Omega.{arith}
 use denote.Ref.{now}
-use Rattle.solver.specs.Cells.{filled-as, filled-count}
-use Rattle.solver.specs.Kept.{ones-kept, not-contradictory, is-contradictory}
+use Rattle.memory.specs.Cells.{filled-as, filled-count}
+use Rattle.blame.specs.Kept.{ones-kept, not-contradictory, is-contradictory}
 use Rattle.solver.specs.Results.{labelling, solves-satisfiable, solves-contradiction}
 use borrow.Author.Needs.{needs}
 use Rattle.solver.proofs.solve_accepted.Statement.{statement}

@@ -10,7 +10,7 @@ use borrow.Author.Tests.{not-true, not-false}
 use Rattle.types.specs.declared.Acceptance.the-variants.{Accepted}
 use Rattle.tables.specs.Limits.{most}
 use Rattle.tables.specs.TableFaults.{Tables, tablesOf, tablesFault, acceptance, Sized}
-use Rattle.solver.specs.Kept.{isContradictory, decided-all}
+use Rattle.blame.specs.Kept.{isContradictory, decided-all}
 use Rattle.solver.specs.Counted.{countedSet, counted-accepted}
 use Rattle.solver.specs.Verdict.{verdict-refused, unasked-verdict, counts, no-records-fault, verdict-decided}
 use Rattle.solver.proofs.verdict.Statement.{statement}

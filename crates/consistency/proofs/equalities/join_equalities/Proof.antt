@@ -12,11 +12,11 @@ use Rattle.consistency.proofs.equalities.join_equalities.Statement.{sta
 use Rattle.consistency.proofs.equalities.join_equalities.Tie as tie
 
 abbrev Inv-loop : tie.InvT-loop
-Inv-loop terms propositions marks parents₀ offs₀ p₀ p-end parents offs p =
-    (p ≤ length propositions) × ((length parents ≡ length parents₀) × ((length offs ≡ length offs₀) × Equalities (setOf terms propositions) marks parents offs p true))
+Inv-loop terms propositions marks parents₀ offsets₀ p₀ p-end parents offsets p =
+    (p ≤ length propositions) × ((length parents ≡ length parents₀) × ((length offsets ≡ length offsets₀) × Equalities (setOf terms propositions) marks parents offsets p true))
 
 abbrev μ-loop : tie.MeasureT-loop
-μ-loop terms propositions marks parents₀ offs₀ p₀ p-end parents offs p = length propositions - p
+μ-loop terms propositions marks parents₀ offsets₀ p₀ p-end parents offsets p = length propositions - p
 
 loop-holds : tie.Need-loop-holds Inv-loop μ-loop
 loop-holds c = let s = c .before .before in (omega arith, (refl, (refl, equalities-start _ _ (s .pre .0 .0) (s .pre .0 .1))))

@@ -64,7 +64,7 @@ equated :
     c .join .result ≡ r →
     let s = start c in
     let x = proposition s in
-    Equated (now (s .args .parents)) (now (s .args .offs)) (c .join .last .0) (c .join .last .1 .0) (x .left) (x .offset) (x .right) r
+    Equated (now (s .args .parents)) (now (s .args .offsets)) (c .join .last .0) (c .join .last .1 .0) (x .left) (x .offset) (x .right) r
 equated c told =
     let indices = c .before .before .before .before in
     let e = indices .before .before .before .before .proposition-at .ensures in

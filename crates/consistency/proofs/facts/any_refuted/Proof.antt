@@ -11,10 +11,10 @@ use Rattle.consistency.proofs.facts.any_refuted.Statement.{statement}
 use Rattle.consistency.proofs.facts.any_refuted.Tie as tie
 
 abbrev Inv-loop : tie.InvT-loop
-Inv-loop propositions marks reps offs p₀ p-end p = (p ≤ length propositions) × ((k : ℕ) → k < p → Judged (propositionAt propositions) marks (view reps offs) k false)
+Inv-loop propositions marks representatives offsets p₀ p-end p = (p ≤ length propositions) × ((k : ℕ) → k < p → Judged (propositionAt propositions) marks (view representatives offsets) k false)
 
 abbrev μ-loop : tie.MeasureT-loop
-μ-loop propositions marks reps offs p₀ p-end p = length propositions - p
+μ-loop propositions marks representatives offsets p₀ p-end p = length propositions - p
 
 is-refuted-requires : tie.Need-is-refuted-requires Inv-loop μ-loop
 is-refuted-requires c κs = let s = c .before .before .before .before in (s .pre .0, (s .pre .1, c .loop-test .taken))

@@ -26,7 +26,7 @@ abbrev start : tie.Else1 → tie.Start
 start r = r .before .before .before .before
 
 -- both sides are terms
-sides : (c : tie.After-index2) → let n = length (now (start (c .before .before .before) .args .reps)) in (c .before .index .result < n) × (c .index2 .result < n)
+sides : (c : tie.After-index2) → let n = length (now (start (c .before .before .before) .args .representatives)) in (c .before .index .result < n) × (c .index2 .result < n)
 sides c =
     let r = c .before .before in
     let s = start (r .before) in

@@ -9,10 +9,10 @@ use Rattle.consistency.proofs.facts.variables_meet.Statement.{statement
 use Rattle.consistency.proofs.facts.variables_meet.Tie as tie
 
 abbrev Inv-loop : tie.InvT-loop
-Inv-loop terms reps seen₀ t₀ t-end seen t = Seen (length terms) (termAt terms) reps seen t
+Inv-loop terms representatives seen₀ t₀ t-end seen t = Seen (length terms) (termAt terms) representatives seen t
 
 abbrev μ-loop : tie.MeasureT-loop
-μ-loop terms reps seen₀ t₀ t-end seen t = length terms - t
+μ-loop terms representatives seen₀ t₀ t-end seen t = length terms - t
 
 loop-again : tie.Need-loop-again Inv-loop μ-loop
 loop-again c =

@@ -6,7 +6,7 @@ use borrow.Author.Needs.{needs}
 use lib.ListN.{length}
 use Rattle.text.specs.Reading.{step}
 use Rattle.lines.specs.LineEnds.{lineOf, lineEnd, end-after, end-within}
-use Rattle.reader.specs.Rows.{Rows, rows, SameSizes, room-sized}
+use Rattle.frames.specs.Rows.{Rows, rows, SameSizes, room-sized}
 use Rattle.reader.specs.Loading.{After}
 use Rattle.reader.specs.Progress.{Progress, progress-none, progress-refused, progress-more, progress-all}
 use Rattle.reader.proofs.load.load.Statement.{statement}

@@ -2,7 +2,7 @@
 use mathlib.Core.Path.{sym, _∙_}
 use borrow.Author.Tests.{not-true, not-false}
 use Rattle.text.specs.Laws.{step-unended}
-use Rattle.reader.specs.Rows.{listing-rows-with}
+use Rattle.frames.specs.Rows.{listing-rows-with}
 use Rattle.reader.specs.Loading.{step-refused, went}
 use borrow.Author.Needs.{needs}
 use Rattle.reader.proofs.load.take_line.Statement.{statement}

@@ -1,0 +1,11 @@
+// One frame into the tables: its refusals after the records read so far, and its record stored. Public for the crate `reader`.
+pub mod store;
+pub mod take;
+
+use types::Refusal;
+
+// What a frame meets after the records read so far.
+pub enum Taken {
+    Accepted,
+    Refused(Refusal),
+}
