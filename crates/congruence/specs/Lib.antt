@@ -1,4 +1,3 @@
--- The labels of the union-find, and joins of dereferences of one address: what each keeps, and how they end.
-pub mod Labels
+-- How the joins of dereferences of one address end (Closing), and the last looks (Settling).
 pub mod Closing
 pub mod Settling

@@ -15,16 +15,13 @@ use Rattle.types.specs.declared.TermNumber.{TermNumber}
 use Rattle.tables.specs.Records.{TermRecord}
 use Rattle.tables.specs.Rows.{Row, termAt}
 use Rattle.tables.specs.TermTable.{AcceptedTerms}
-use Rattle.unionfind.specs.declared.Root.{Root}
 use Rattle.unionfind.specs.declared.Joining.{Joining}
-use Rattle.unionfind.specs.Forest.{Links, flat, Found, Equated, Flattened}
+use Rattle.unionfind.specs.Forest.{Links, flat, Equated, Flattened}
 use Rattle.lastlook.specs.declared.Look.{Look}
 use Rattle.lastlook.specs.Addresses.{SameAddress, Labelled, Looked}
-use Rattle.congruence.specs.Labels.{Labels, Unchanged, Columns, labels-rooted, labels-near, joined-labels}
-use Rattle.congruence.specs.Closing.{Chain, more, Chased, going, Closing, Clash, own-labels, unchanged-chased}
-
-pub found-unchanged : {p0 p : List ℕ} {o0 o : List ℤ} {t : ℕ} {r : Root} → Found p0 o0 p o t r → Unchanged p0 o0 p o
-found-unchanged F = record { links = F .links; same = F .same; long = F .long }
+use Rattle.joins.specs.Labels.{Labels, Unchanged, Columns, labels-rooted, labels-near, joined-labels}
+use Rattle.joins.specs.Meeting.{Chain, more, Chased, going, Clash, own-labels, unchanged-chased}
+use Rattle.congruence.specs.Closing.{Closing}
 
 pub flattened-unchanged : {p0 p : List ℕ} {o0 o : List ℤ} → Flattened p0 o0 p o → Unchanged p0 o0 p o
 flattened-unchanged F = record { links = F .links; same = F .same; long = F .long }

@@ -26,7 +26,8 @@ use Rattle.tables.specs.Sets.{Set, AcceptedSet, termsIn, propositionsIn}
 use Rattle.unionfind.specs.Forest.{flat}
 use Rattle.lastlook.specs.Addresses.{SameAddress}
 use Rattle.consistency.specs.Live.{isKept, keptOf, kept, LiveAt, Live, EqualBelow, Equalities, kept-well-formed, kept-in, chain-live, equalities-live, equalities-below}
-use Rattle.congruence.specs.Closing.{Clash, Agree, Closing, closed, clash, chain-keeps}
+use Rattle.joins.specs.Meeting.{Clash, chain-keeps}
+use Rattle.congruence.specs.Closing.{Agree, Closing, closed, clash}
 
 -- a kept disequality or block disequality contradicts the labels, or not
 pub data Judged (rec : ℕ → PropositionRecord) (marks : List ℕ) (P : Placement) (k : ℕ) : Bool → Type 0 where

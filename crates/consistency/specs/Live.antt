@@ -30,8 +30,8 @@ use Rattle.tables.specs.Sets.{Set, AcceptedSet, termsIn, propositionsIn}
 use Rattle.unionfind.specs.declared.Joining.{Joining}
 use Rattle.unionfind.specs.Forest.{Links, flat, Equated, joined, held, clashed}
 use Rattle.lastlook.specs.Addresses.{SameAddress}
-use Rattle.congruence.specs.Labels.{Labels}
-use Rattle.congruence.specs.Closing.{Chain, start, more}
+use Rattle.joins.specs.Labels.{Labels}
+use Rattle.joins.specs.Meeting.{Chain, start, more}
 
 -- proposition k is kept
 abbrev pub isKept : List ℕ → ℕ → Bool

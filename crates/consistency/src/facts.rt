@@ -25,7 +25,7 @@ ghost use Rattle.tables.specs.Limits.{most};
 ghost use Rattle.tables.specs.Rows.{termAt, propositionAt};
 ghost use Rattle.tables.specs.PropositionTable.{AcceptedPropositions};
 ghost use Rattle.unionfind.specs.Forest.{Near};
-ghost use Rattle.congruence.specs.Labels.{Columns};
+ghost use Rattle.joins.specs.Labels.{Columns};
 ghost use Rattle.consistency.specs.Deciding.{Judged, Refuted, Meets};
 
 // Whether the labels say a = z + b.

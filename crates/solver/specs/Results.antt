@@ -32,7 +32,7 @@ use Rattle.tables.specs.QuestionTable.{AcceptedQuestions, length-questions-from
 use Rattle.tables.specs.Sets.{Set, AcceptedSet, termsIn, propositionsIn}
 use Rattle.tables.specs.Memory.{Memory}
 use Rattle.unionfind.specs.Forest.{Cleared}
-use Rattle.congruence.specs.Labels.{spread-near}
+use Rattle.joins.specs.Labels.{spread-near}
 use Rattle.consistency.specs.Deciding as deciding
 use Rattle.consistency.specs.Deciding.{Decided}
 use Rattle.columns.specs.Telling.{factsIn, pairsBy, answersBy, questionsIn, Labelling}

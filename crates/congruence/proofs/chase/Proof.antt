@@ -6,7 +6,7 @@ use lib.ListN.{length}
 use borrow.Author.Needs.{needs}
 use borrow.Author.Tests.{not-true, not-false}
 use Rattle.tables.specs.Rows.{termAt}
-use Rattle.congruence.specs.Closing.{Chased, chased-start, chased-labels, chased-long, chased-then}
+use Rattle.joins.specs.Meeting.{Chased, chased-start, chased-labels, chased-long, chased-then}
 use Rattle.congruence.proofs.chase.Statement.{statement}
 use Rattle.congruence.proofs.chase.Tie as tie
 

@@ -2,8 +2,9 @@ use mathlib.Core.Path.{refl}
 use lib.ListN.{length}
 use borrow.Author.Tests.{not-true, not-false}
 use Rattle.tables.specs.Rows.{termAt}
-use Rattle.congruence.specs.Labels.{unchanged-labels}
-use Rattle.congruence.specs.Closing.{start, chased-labels, chased-clash, chased-then, closing-then, unchanged-chased}
+use Rattle.joins.specs.Labels.{unchanged-labels}
+use Rattle.joins.specs.Meeting.{start, chased-labels, chased-then, unchanged-chased}
+use Rattle.congruence.specs.Closing.{chased-clash, closing-then}
 use borrow.Author.Needs.{needs}
 use Rattle.congruence.proofs.close.Statement.{statement}
 use Rattle.congruence.proofs.close.Tie as tie

@@ -3,8 +3,8 @@ use mathlib.Core.Path.{_≡_, refl, _∙_}
 use native.Mathlib.Omega.{arith}
 use lib.ListN.{length}
 use Rattle.tables.specs.Rows.{termAt}
-use Rattle.congruence.specs.Labels.{Unchanged, unchanged-self, unchanged-labels, unchanged-then, labels-near}
-use Rattle.congruence.specs.Closing.{deref-record}
+use Rattle.joins.specs.Labels.{Unchanged, unchanged-self, unchanged-labels, unchanged-then, labels-near}
+use Rattle.joins.specs.Meeting.{deref-record}
 use borrow.Author.Needs.{needs}
 use Rattle.congruence.proofs.list_uses.Statement.{statement}
 use Rattle.congruence.proofs.list_uses.Tie as tie

@@ -6,8 +6,8 @@ use Rattle.integers.specs.Within.{within-zero}
 use Rattle.labels.specs.Joins.{weight}
 use Rattle.tables.specs.Rows.{termAt}
 use Rattle.unionfind.specs.Forest.{flat}
-use Rattle.congruence.specs.Labels.{labels-near}
-use Rattle.congruence.specs.Closing.{Chased, chased-start, chased-labels, chased-chain, chased-long, unchanged-chased}
+use Rattle.joins.specs.Labels.{labels-near}
+use Rattle.joins.specs.Meeting.{Chased, chased-start, chased-labels, chased-chain, chased-long, unchanged-chased}
 use Rattle.congruence.specs.Settling.{flattened-unchanged, flattened-view, labelled, looked-pair, settled, pair-joined, pair-lighter, pair-held, pair-clashed}
 use Rattle.congruence.proofs.settle.Statement.{statement}
 use Rattle.congruence.proofs.settle.Tie as tie

@@ -13,7 +13,7 @@ use Rattle.tables.specs.PropositionTable.{sides-below, proposition-offset-withi
 use Rattle.tables.specs.Rows.{propositionAt}
 use Rattle.unionfind.specs.declared.Joining.{Joining}
 use Rattle.unionfind.specs.Forest.{Equated}
-use Rattle.congruence.specs.Labels.{labels-near}
+use Rattle.joins.specs.Labels.{labels-near}
 use Rattle.consistency.specs.Live.{isKept, live-labels, advance-none, advance-joined, advance-held, advance-clashed, dropped, marked}
 use Rattle.consistency.proofs.equalities.join_equality.Statement.{statement}
 use Rattle.consistency.proofs.equalities.join_equality.Tie as tie

@@ -1,13 +1,13 @@
 use Rattle.integers.specs.Within.{Within}
 use Rattle.labels.specs.Spread.{far}
-use Rattle.congruence.specs.Closing.{address-fits, offset-fits, far-fits}
+use Rattle.joins.specs.Meeting.{address-fits, offset-fits, far-fits}
 use mathlib.Core.Path.{_≡_, refl, sym, _∙_}
 use mir.Syntax.{w64}
 use mir.ValLaws.{toZ-ofZ}
 use borrow.Author.Needs.{needs, sfits-of}
-use Rattle.congruence.specs.Labels.{labels-near}
-use Rattle.congruence.proofs.address.Statement.{statement}
-use Rattle.congruence.proofs.address.Tie as tie
+use Rattle.joins.specs.Labels.{labels-near}
+use Rattle.joins.proofs.address.Statement.{statement}
+use Rattle.joins.proofs.address.Tie as tie
 
 index-requires : tie.Need-index-requires
 index-requires c κs = search needs

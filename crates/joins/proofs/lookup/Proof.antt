@@ -2,11 +2,11 @@ use Prim.Native.Nat.{_-_, _≤_}
 use mathlib.Core.Path.{_≡_, refl, _∙_}
 use native.Mathlib.Omega.{arith}
 use lib.ListN.{length}
-use Rattle.congruence.specs.Labels.{Unchanged, unchanged-self, unchanged-labels, unchanged-then}
-use Rattle.congruence.specs.Closing.{reads-not}
+use Rattle.joins.specs.Labels.{Unchanged, unchanged-self, unchanged-labels, unchanged-then}
+use Rattle.joins.specs.Meeting.{reads-not}
 use borrow.Author.Needs.{needs}
-use Rattle.congruence.proofs.lookup.Statement.{statement}
-use Rattle.congruence.proofs.lookup.Tie as tie
+use Rattle.joins.proofs.lookup.Statement.{statement}
+use Rattle.joins.proofs.lookup.Tie as tie
 
 abbrev Inv-loop : tie.InvT-loop
 Inv-loop terms parents₀ offsets₀ notes₀ start x at i₀ parents offsets notes i = (i ≤ 512) × (Unchanged parents₀ offsets₀ parents offsets × (length offsets ≡ length offsets₀ × (length notes ≡ length notes₀)))

@@ -1,12 +1,12 @@
 use mathlib.Core.Path.{refl}
 use lib.ListN.{length}
 use Rattle.tables.specs.Rows.{termAt}
-use Rattle.congruence.specs.Labels.{labels-near, unchanged-labels, unchanged-then}
-use Rattle.congruence.specs.Closing.{start, unchanged-chased, meeting-going, meeting-joined, meeting-clashed}
-use Rattle.congruence.specs.Settling.{found-unchanged}
+use Rattle.joins.specs.Labels.{labels-near, unchanged-labels, unchanged-then}
+use Rattle.joins.specs.Meeting.{start, unchanged-chased, meeting-going, meeting-joined, meeting-clashed}
+use Rattle.joins.specs.Meeting.{found-unchanged}
 use borrow.Author.Needs.{needs}
-use Rattle.congruence.proofs.merge.Statement.{statement}
-use Rattle.congruence.proofs.merge.Tie as tie
+use Rattle.joins.proofs.merge.Statement.{statement}
+use Rattle.joins.proofs.merge.Tie as tie
 
 find-requires : tie.Need-find-requires
 find-requires c κs = let s = (c .before .before .before .before .before) in let L = s .pre .0 .1 in ((L .links, labels-near L), rw (L .count) (s .pre .1 .0))

@@ -2,11 +2,11 @@ use mathlib.Core.Path.{refl}
 use native.Mathlib.Omega.{arith}
 use lib.ListN.{length}
 use Rattle.tables.specs.Rows.{termAt}
-use Rattle.congruence.specs.Labels.{unchanged-labels, unchanged-then}
-use Rattle.congruence.specs.Closing.{start, deref-record, chased-start, unchanged-chased, chased-then}
+use Rattle.joins.specs.Labels.{unchanged-labels, unchanged-then}
+use Rattle.joins.specs.Meeting.{start, deref-record, chased-start, unchanged-chased, chased-then}
 use borrow.Author.Needs.{needs}
-use Rattle.congruence.proofs.step.Statement.{statement}
-use Rattle.congruence.proofs.step.Tie as tie
+use Rattle.joins.proofs.step.Statement.{statement}
+use Rattle.joins.proofs.step.Tie as tie
 
 term-at-requires : tie.Need-term-at-requires
 term-at-requires c κs = search needs

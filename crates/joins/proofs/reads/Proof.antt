@@ -2,10 +2,10 @@ use Rattle.tables.specs.Rows.{termAt}
 use mir.Syntax.{w64}
 use mir.ValLaws.{toZ-ofZ}
 use borrow.Author.Needs.{needs, sfits-of}
-use Rattle.congruence.specs.Labels.{unchanged-self}
-use Rattle.congruence.specs.Closing.{does-not, deref-record, reads-by}
-use Rattle.congruence.proofs.reads.Statement.{statement}
-use Rattle.congruence.proofs.reads.Tie as tie
+use Rattle.joins.specs.Labels.{unchanged-self}
+use Rattle.joins.specs.Meeting.{does-not, deref-record, reads-by}
+use Rattle.joins.proofs.reads.Statement.{statement}
+use Rattle.joins.proofs.reads.Tie as tie
 
 term-at-requires : tie.Need-term-at-requires
 term-at-requires c κs = search needs

@@ -2,11 +2,11 @@ use lib.ListN.{length}
 use borrow.Author.Tests.{not-true, not-false}
 use Rattle.integers.specs.Within.{within-zero}
 use Rattle.tables.specs.Rows.{termAt}
-use Rattle.congruence.specs.Labels.{unchanged-self, unchanged-labels, unchanged-then, labels-near}
-use Rattle.congruence.specs.Closing.{as-before, deref-record, reads-not, tested, met-joined, met-held, met-clashed}
+use Rattle.joins.specs.Labels.{unchanged-self, unchanged-labels, unchanged-then, labels-near}
+use Rattle.joins.specs.Meeting.{as-before, deref-record, reads-not, tested, met-joined, met-held, met-clashed}
 use borrow.Author.Needs.{needs}
-use Rattle.congruence.proofs.meet.Statement.{statement}
-use Rattle.congruence.proofs.meet.Tie as tie
+use Rattle.joins.proofs.meet.Statement.{statement}
+use Rattle.joins.proofs.meet.Tie as tie
 
 term-at-requires : tie.Need-term-at-requires
 term-at-requires c κs = search needs
