@@ -19,63 +19,42 @@ Inv-loop text₀ done₀ text done = (length text ≡ length text₀) × (done �
 abbrev μ-loop : tie.MeasureT-loop
 μ-loop text₀ done₀ text done = length text₀ - done
 
--- src/main.rt:20:5
 loop-holds : tie.Need-loop-holds Inv-loop μ-loop
 loop-holds c = (refl, omega arith)
 
--- src/main.rt:21:20
 sub-rest : tie.Need-sub-rest Inv-loop μ-loop
 sub-rest c = c .before .loop .inv .1
 
--- src/main.rt:21:20
-part-rest-start : tie.Need-part-rest-start Inv-loop μ-loop
-part-rest-start c = search needs
-
--- src/main.rt:21:20
-part-rest-end : tie.Need-part-rest-end Inv-loop μ-loop
-part-rest-end c = search needs
-
--- src/main.rt:22:13
 read-requires : tie.Need-read-requires Inv-loop μ-loop
 read-requires c κs = tt
 
--- src/main.rt:24:13
 same-length : tie.Need-same-length Inv-loop μ-loop
 same-length c = same-len-mid (c .before .before .before .before .before .before .before .before .before .loop .done) (length (c .before .before .before .before .before .before .before .before .before .loop .text) - c .before .before .before .before .before .before .before .before .before .loop .done) (c .before .before .before .before .before .before .before .before .before .loop .text) (c .before .before .before .before .before .read .last .1 .0) (c .before .before .before .before .before .read .kept .1 .0) ∙ c .before .before .before .before .before .before .before .before .before .loop .inv .0
 
--- src/main.rt:24:13
 returns : tie.Need-returns Inv-loop μ-loop
 returns c = tt
 
--- src/main.rt:26:13
 count-requires : tie.Need-count-requires Inv-loop μ-loop
 count-requires c κs = tt
 
--- src/main.rt:28:13
 same-length-2 : tie.Need-same-length-2 Inv-loop μ-loop
 same-length-2 c = same-len-mid (c .before .before .before .before .before .before .before .before .before .before .before .before .loop .done) (length (c .before .before .before .before .before .before .before .before .before .before .before .before .loop .text) - c .before .before .before .before .before .before .before .before .before .before .before .before .loop .done) (c .before .before .before .before .before .before .before .before .before .before .before .before .loop .text) (c .before .before .before .before .before .before .before .before .read .last .1 .0) (c .before .before .before .before .before .before .before .before .read .kept .1 .0) ∙ c .before .before .before .before .before .before .before .before .before .before .before .before .loop .inv .0
 
--- src/main.rt:28:13
 returns-2 : tie.Need-returns-2 Inv-loop μ-loop
 returns-2 c = omega (arith, same-len-mid (c .before .before .before .before .before .before .before .before .before .before .before .before .loop .done) (length (c .before .before .before .before .before .before .before .before .before .before .before .before .loop .text) - c .before .before .before .before .before .before .before .before .before .before .before .before .loop .done) (c .before .before .before .before .before .before .before .before .before .before .before .before .loop .text) (c .before .before .before .before .before .before .before .before .read .last .1 .0) (c .before .before .before .before .before .before .before .before .read .kept .1 .0), c .before .before .before .before .before .before .before .before .before .before .before .before .loop .inv .1)
 
--- src/main.rt:30:16
 add-done : tie.Need-add-done Inv-loop μ-loop
 add-done c = omega (arith, counted (c .before .before .before .before .before .before .before .before .before .before .before .before .loop .done) (c .before .before .before .before .before .before .before .before .before .before .before .before .loop .text) (c .before .before .before .before .before .before .before .before .read .last .1 .0) (c .before .before .before .count .result) (c .before .before .before .before .before .before .before .before .read .kept .1 .0) (c .before .before .before .count .ensures .0 .0), c .before .before .before .before .before .before .before .before .before .before .before .before .loop .inv .1, c .before .before .before .before .before .before .before .before .before .before .before .before .before .before .good)
 
--- src/main.rt:20:5
 loop-less : tie.Need-loop-less Inv-loop μ-loop
 loop-less c = omega (arith, counted (c .before .before .before .before .before .before .before .before .before .before .before .before .loop .done) (c .before .before .before .before .before .before .before .before .before .before .before .before .loop .text) (c .before .before .before .before .before .before .before .before .read .last .1 .0) (c .before .before .before .count .result) (c .before .before .before .before .before .before .before .before .read .kept .1 .0) (c .before .before .before .count .ensures .0 .0), c .before .before .before .before .before .before .before .before .before .before .before .before .loop .inv, c .before .before .before .before .before .before .before .before .before .before .before .loop-test .taken, c .if2 .left)
 
--- src/main.rt:20:5
 loop-again : tie.Need-loop-again Inv-loop μ-loop
 loop-again c = (same-len-mid (c .before .before .before .before .before .before .before .before .before .before .before .before .loop .done) (length (c .before .before .before .before .before .before .before .before .before .before .before .before .loop .text) - c .before .before .before .before .before .before .before .before .before .before .before .before .loop .done) (c .before .before .before .before .before .before .before .before .before .before .before .before .loop .text) (c .before .before .before .before .before .before .before .before .read .last .1 .0) (c .before .before .before .before .before .before .before .before .read .kept .1 .0) ∙ c .before .before .before .before .before .before .before .before .before .before .before .before .loop .inv .0, omega (arith, same-len-mid (c .before .before .before .before .before .before .before .before .before .before .before .before .loop .done) (length (c .before .before .before .before .before .before .before .before .before .before .before .before .loop .text) - c .before .before .before .before .before .before .before .before .before .before .before .before .loop .done) (c .before .before .before .before .before .before .before .before .before .before .before .before .loop .text) (c .before .before .before .before .before .before .before .before .read .last .1 .0) (c .before .before .before .before .before .before .before .before .read .kept .1 .0), counted (c .before .before .before .before .before .before .before .before .before .before .before .before .loop .done) (c .before .before .before .before .before .before .before .before .before .before .before .before .loop .text) (c .before .before .before .before .before .before .before .before .read .last .1 .0) (c .before .before .before .count .result) (c .before .before .before .before .before .before .before .before .read .kept .1 .0) (c .before .before .before .count .ensures .0 .0), c .before .before .before .before .before .before .before .before .before .before .before .before .loop .inv .1))
 
--- src/main.rt:16:1
 same-length-3 : tie.Need-same-length-3 Inv-loop μ-loop
 same-length-3 c = c .before .loop .inv .0
 
--- src/main.rt:16:1
 returns-3 : tie.Need-returns-3 Inv-loop μ-loop
 returns-3 c = c .before .loop .inv .1
 
@@ -87,8 +66,8 @@ read-input-spec =
     μ-loop
     loop-holds
     sub-rest
-    part-rest-start
-    part-rest-end
+    (λ c. search needs)
+    (λ c. search needs)
     read-requires
     same-length
     returns

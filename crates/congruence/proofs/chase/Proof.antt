@@ -19,9 +19,6 @@ abbrev μ-loop : tie.MeasureT-loop
 loop-holds : tie.Need-loop-holds Inv-loop μ-loop
 loop-holds c = let s = (c .before .before .before) in (omega arith, (chased-start (length (s .args .terms .now)) (termAt (s .args .terms .now)) (s .pre .1), (refl, (refl, refl))))
 
-pop-requires : tie.Need-pop-requires Inv-loop μ-loop
-pop-requires c κs = search needs
-
 same-length : tie.Need-same-length Inv-loop μ-loop
 same-length c = let s = (c .before .before .before .before .before .before .before .before .before .before) in chased-long (length (s .args .terms .now)) (termAt (s .args .terms .now)) (c .before .before .before .before .before .before .loop .inv .1 .0)
 
@@ -104,7 +101,7 @@ chase-spec =
     Inv-loop
     μ-loop
     loop-holds
-    pop-requires
+    (λ c κs. search needs)
     same-length
     same-length-2
     same-length-3

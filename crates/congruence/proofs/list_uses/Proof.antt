@@ -36,14 +36,8 @@ loop-less c = omega (arith, c .before .before .before .loop-test .taken)
 loop-again : tie.Need-loop-again Inv-loop μ-loop
 loop-again c = (omega (arith, c .before .before .before .loop-test .taken), c .before .before .before .before .loop .inv .1)
 
-index-requires : tie.Need-index-requires Inv-loop μ-loop
-index-requires c κs = search needs
-
 find-requires : tie.Need-find-requires Inv-loop μ-loop
 find-requires c κs = let s = (c .before .before .before .before .before .before .before .before .before .before) in let L = unchanged-labels (c .before .before .before .before .before .before .before .loop .inv .1 .0) (s .pre .1) in let d = deref-record (termAt (s .args .terms .now)) (s .pre .0) L (omega (arith, c .before .before .before .before .before .before .loop-test .taken)) (c .before .before .before .before .before .term-at .ensures) (c .before .before .before .if1 .left) in ((L .links, labels-near L), rw (c .index .ensures) (d .1 .0))
-
-add-use-requires : tie.Need-add-use-requires Inv-loop μ-loop
-add-use-requires c κs = search needs
 
 add-k-2 : tie.Need-add-k-2 Inv-loop μ-loop
 add-k-2 c = omega (arith, c .before .before .before .before .before .before .before .before .before .before .before .before .before .before .loop-test .taken, (c .before .before .before .before .before .before .before .before .before .before .before .before .before .before .before .before .before .before) .pre .1 .few, (c .before .before .before .before .before .before .before .before .before .before .before .before .before .before .before .before .before .before) .pre .1 .count)
@@ -79,9 +73,9 @@ list-uses-spec =
     add-k
     loop-less
     loop-again
-    index-requires
+    (λ c κs. search needs)
     find-requires
-    add-use-requires
+    (λ c κs. search needs)
     add-k-2
     loop-less-2
     loop-again-2

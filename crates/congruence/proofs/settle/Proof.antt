@@ -27,9 +27,6 @@ flatten-requires c κs = let s = (c .before .before .before .before) in let L = 
 unequal-pair-requires : tie.Need-unequal-pair-requires Inv-loop μ-loop
 unequal-pair-requires c κs = let s = (c .before .before .before .before .before .before .before .before .before .before) in let k = unchanged-chased (length (s .args .terms .now)) (termAt (s .args .terms .now)) (chased-labels (length (s .args .terms .now)) (termAt (s .args .terms .now)) (c .before .before .before .before .before .before .before .before .loop .inv .0)) (chased-chain (length (s .args .terms .now)) (termAt (s .args .terms .now)) (c .before .before .before .before .before .before .before .before .loop .inv .0)) (chased-long (length (s .args .terms .now)) (termAt (s .args .terms .now)) (c .before .before .before .before .before .before .before .before .loop .inv .0)) (flattened-unchanged (c .before .before .before .before .before .flatten .ensures)) in let v = flattened-view (c .before .before .before .before .before .flatten .ensures) in labelled (s .args .terms .now) (s .pre .0) (chased-labels (length (s .args .terms .now)) (termAt (s .args .terms .now)) k) v
 
-enum-told : tie.Need-enum-told Inv-loop μ-loop
-enum-told c = search needs
-
 same-length : tie.Need-same-length Inv-loop μ-loop
 same-length c = let s = (c .before .before .before .before .before .before .before .before .before .before .before .before .before) in c .before .before .before .before .before .before .before .before .flatten .ensures .long ∙ chased-long (length (s .args .terms .now)) (termAt (s .args .terms .now)) (c .before .before .before .before .before .before .before .before .before .before .before .loop .inv .0)
 
@@ -39,23 +36,14 @@ same-length-2 c = c .before .before .before .before .before .before .before .bef
 returns : tie.Need-returns Inv-loop μ-loop
 returns c = let s = (c .before .before .before .before .before .before .before .before .before .before .before .before .before) in let k = unchanged-chased (length (s .args .terms .now)) (termAt (s .args .terms .now)) (chased-labels (length (s .args .terms .now)) (termAt (s .args .terms .now)) (c .before .before .before .before .before .before .before .before .before .before .before .loop .inv .0)) (chased-chain (length (s .args .terms .now)) (termAt (s .args .terms .now)) (c .before .before .before .before .before .before .before .before .before .before .before .loop .inv .0)) (chased-long (length (s .args .terms .now)) (termAt (s .args .terms .now)) (c .before .before .before .before .before .before .before .before .before .before .before .loop .inv .0)) (flattened-unchanged (c .before .before .before .before .before .before .before .before .flatten .ensures)) in let v = flattened-view (c .before .before .before .before .before .before .before .before .flatten .ensures) in settled (length (s .args .terms .now)) (termAt (s .args .terms .now)) k v (rw (c .enum-told .given .1) at (c .before .before .unequal-pair .ensures))
 
-enum-known-x : tie.Need-enum-known-x Inv-loop μ-loop
-enum-known-x c = search needs
-
 join-requires : tie.Need-join-requires Inv-loop μ-loop
 join-requires c κs = let s = (c .before .before .before .before .before .before .before .before .before .before .before .before .before .before .before .before) in let k = unchanged-chased (length (s .args .terms .now)) (termAt (s .args .terms .now)) (chased-labels (length (s .args .terms .now)) (termAt (s .args .terms .now)) (c .before .before .before .before .before .before .before .before .before .before .before .before .before .before .loop .inv .0)) (chased-chain (length (s .args .terms .now)) (termAt (s .args .terms .now)) (c .before .before .before .before .before .before .before .before .before .before .before .before .before .before .loop .inv .0)) (chased-long (length (s .args .terms .now)) (termAt (s .args .terms .now)) (c .before .before .before .before .before .before .before .before .before .before .before .before .before .before .loop .inv .0)) (flattened-unchanged (c .before .before .before .before .before .before .before .before .before .before .before .flatten .ensures)) in let v = flattened-view (c .before .before .before .before .before .before .before .before .before .before .before .flatten .ensures) in let a = rw v at (looked-pair (length (s .args .terms .now)) (termAt (s .args .terms .now)) (rw (c .before .before .before .x .given .1) at (c .before .before .before .before .before .unequal-pair .ensures))) in let L = chased-labels (length (s .args .terms .now)) (termAt (s .args .terms .now)) k in ((L .links, labels-near L), (rw (L .count) (a .below-x), (rw (L .count) (a .below-y), within-zero)))
-
-enum-told-2 : tie.Need-enum-told-2 Inv-loop μ-loop
-enum-told-2 c = search needs
 
 loop-less : tie.Need-loop-less Inv-loop μ-loop
 loop-less c = let s = (c .before .before .before .before .before .before .before .before .before .before .before .before .before .before .before .before .before .before .before .before .before .before) in let k = unchanged-chased (length (s .args .terms .now)) (termAt (s .args .terms .now)) (chased-labels (length (s .args .terms .now)) (termAt (s .args .terms .now)) (c .before .before .before .before .before .before .before .before .before .before .before .before .before .before .before .before .before .before .before .before .loop .inv .0)) (chased-chain (length (s .args .terms .now)) (termAt (s .args .terms .now)) (c .before .before .before .before .before .before .before .before .before .before .before .before .before .before .before .before .before .before .before .before .loop .inv .0)) (chased-long (length (s .args .terms .now)) (termAt (s .args .terms .now)) (c .before .before .before .before .before .before .before .before .before .before .before .before .before .before .before .before .before .before .before .before .loop .inv .0)) (flattened-unchanged (c .before .before .before .before .before .before .before .before .before .before .before .before .before .before .before .before .before .flatten .ensures)) in let v = flattened-view (c .before .before .before .before .before .before .before .before .before .before .before .before .before .before .before .before .before .flatten .ensures) in let a = rw v at (looked-pair (length (s .args .terms .now)) (termAt (s .args .terms .now)) (rw (c .before .before .before .before .before .before .before .before .before .x .given .1) at (c .before .before .before .before .before .before .before .before .before .before .before .unequal-pair .ensures))) in rw (← (c .before .before .before .before .before .before .before .before .before .before .before .before .before .before .before .before .before .flatten .ensures .same)) (pair-lighter (length (s .args .terms .now)) (termAt (s .args .terms .now)) k a (rw (c .enum-told2 .given .1) at (c .before .before .before .before .before .join .ensures)))
 
 loop-again : tie.Need-loop-again Inv-loop μ-loop
 loop-again c = let s = (c .before .before .before .before .before .before .before .before .before .before .before .before .before .before .before .before .before .before .before .before .before .before) in let k = unchanged-chased (length (s .args .terms .now)) (termAt (s .args .terms .now)) (chased-labels (length (s .args .terms .now)) (termAt (s .args .terms .now)) (c .before .before .before .before .before .before .before .before .before .before .before .before .before .before .before .before .before .before .before .before .loop .inv .0)) (chased-chain (length (s .args .terms .now)) (termAt (s .args .terms .now)) (c .before .before .before .before .before .before .before .before .before .before .before .before .before .before .before .before .before .before .before .before .loop .inv .0)) (chased-long (length (s .args .terms .now)) (termAt (s .args .terms .now)) (c .before .before .before .before .before .before .before .before .before .before .before .before .before .before .before .before .before .before .before .before .loop .inv .0)) (flattened-unchanged (c .before .before .before .before .before .before .before .before .before .before .before .before .before .before .before .before .before .flatten .ensures)) in let v = flattened-view (c .before .before .before .before .before .before .before .before .before .before .before .before .before .before .before .before .before .flatten .ensures) in let a = rw v at (looked-pair (length (s .args .terms .now)) (termAt (s .args .terms .now)) (rw (c .before .before .before .before .before .before .before .before .before .x .given .1) at (c .before .before .before .before .before .before .before .before .before .before .before .unequal-pair .ensures))) in (pair-joined (length (s .args .terms .now)) (termAt (s .args .terms .now)) k a (rw (c .enum-told2 .given .1) at (c .before .before .before .before .before .join .ensures)), c .before .before .before .before .before .join .kept .1 .0 ∙ (c .before .before .before .before .before .before .before .before .before .before .before .before .before .before .before .before .before .flatten .ensures .offsets-long ∙ c .before .before .before .before .before .before .before .before .before .before .before .before .before .before .before .before .before .before .before .before .loop .inv .1))
-
-enum-told-3 : tie.Need-enum-told-3 Inv-loop μ-loop
-enum-told-3 c = search needs
 
 same-length-3 : tie.Need-same-length-3 Inv-loop μ-loop
 same-length-3 c = let s = (c .before .before .before .before .before .before .before .before .before .before .before .before .before .before .before .before .before .before .before .before .before .before) in c .before .before .before .before .before .join .kept .0 ∙ (c .before .before .before .before .before .before .before .before .before .before .before .before .before .before .before .before .before .flatten .ensures .long ∙ chased-long (length (s .args .terms .now)) (termAt (s .args .terms .now)) (c .before .before .before .before .before .before .before .before .before .before .before .before .before .before .before .before .before .before .before .before .loop .inv .0))
@@ -65,9 +53,6 @@ same-length-4 c = c .before .before .before .before .before .join .kept .1 .0 �
 
 returns-2 : tie.Need-returns-2 Inv-loop μ-loop
 returns-2 c = let s = (c .before .before .before .before .before .before .before .before .before .before .before .before .before .before .before .before .before .before .before .before .before .before) in let k = unchanged-chased (length (s .args .terms .now)) (termAt (s .args .terms .now)) (chased-labels (length (s .args .terms .now)) (termAt (s .args .terms .now)) (c .before .before .before .before .before .before .before .before .before .before .before .before .before .before .before .before .before .before .before .before .loop .inv .0)) (chased-chain (length (s .args .terms .now)) (termAt (s .args .terms .now)) (c .before .before .before .before .before .before .before .before .before .before .before .before .before .before .before .before .before .before .before .before .loop .inv .0)) (chased-long (length (s .args .terms .now)) (termAt (s .args .terms .now)) (c .before .before .before .before .before .before .before .before .before .before .before .before .before .before .before .before .before .before .before .before .loop .inv .0)) (flattened-unchanged (c .before .before .before .before .before .before .before .before .before .before .before .before .before .before .before .before .before .flatten .ensures)) in let v = flattened-view (c .before .before .before .before .before .before .before .before .before .before .before .before .before .before .before .before .before .flatten .ensures) in let a = rw v at (looked-pair (length (s .args .terms .now)) (termAt (s .args .terms .now)) (rw (c .before .before .before .before .before .before .before .before .before .x .given .1) at (c .before .before .before .before .before .before .before .before .before .before .before .unequal-pair .ensures))) in pair-held (length (s .args .terms .now)) (termAt (s .args .terms .now)) a (rw (c .enum-told3 .given .1) at (c .before .before .before .before .before .join .ensures))
-
-enum-told-4 : tie.Need-enum-told-4 Inv-loop μ-loop
-enum-told-4 c = search needs
 
 same-length-5 : tie.Need-same-length-5 Inv-loop μ-loop
 same-length-5 c = let s = (c .before .before .before .before .before .before .before .before .before .before .before .before .before .before .before .before .before .before .before .before .before .before) in c .before .before .before .before .before .join .kept .0 ∙ (c .before .before .before .before .before .before .before .before .before .before .before .before .before .before .before .before .before .flatten .ensures .long ∙ chased-long (length (s .args .terms .now)) (termAt (s .args .terms .now)) (c .before .before .before .before .before .before .before .before .before .before .before .before .before .before .before .before .before .before .before .before .loop .inv .0))
@@ -87,20 +72,20 @@ settle-spec =
     loop-holds
     flatten-requires
     unequal-pair-requires
-    enum-told
+    (λ c. search needs)
     same-length
     same-length-2
     returns
-    enum-known-x
+    (λ c. search needs)
     join-requires
-    enum-told-2
+    (λ c. search needs)
     loop-less
     loop-again
-    enum-told-3
+    (λ c. search needs)
     same-length-3
     same-length-4
     returns-2
-    enum-told-4
+    (λ c. search needs)
     same-length-5
     same-length-6
     returns-3)

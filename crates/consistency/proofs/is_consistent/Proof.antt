@@ -14,23 +14,11 @@ reset-requires c κs = let s = (c .before .before .before .before) in (s .pre .1
 join-equalities-requires : tie.Need-join-equalities-requires
 join-equalities-requires c κs = let s = (c .before .before .before .before .before .before .before .before .before .before) in let S = setOf (s .args .terms .now) (s .args .propositions .now) in let m = s .args .marks .now in let good = s .pre .0 .0 in let r = c .before .before .before .before .before .reset .ensures in ((good, fresh-live S m good (r .links) (r .long ∙ s .pre .1 .0) (r .fresh)), s .pre .0 .1)
 
-same-length : tie.Need-same-length
-same-length c = search needs
-
-same-length-2 : tie.Need-same-length-2
-same-length-2 c = search needs
-
 returns : tie.Need-returns
 returns c = let s = (c .before .before .before .before .before .before .before .before .before .before .before .before .before .before .before) in let S = setOf (s .args .terms .now) (s .args .propositions .now) in let m = s .args .marks .now in let good = s .pre .0 .0 in contradictory (equalities-off S m good (rw (not-true (c .before .before .before .before .join-equalities .result) (c .if1 .taken)) at (c .before .before .before .before .join-equalities .ensures)))
 
 close-requires : tie.Need-close-requires
 close-requires c κs = let s = (c .before .before .before .before .before .before .before .before .before .before .before .before .before .before .before .before .before) in let S = setOf (s .args .terms .now) (s .args .propositions .now) in let m = s .args .marks .now in let good = s .pre .0 .0 in let e = rw (not-false (c .before .before .before .before .before .before .join-equalities .result) (c .before .before .if1 .left)) at (c .before .before .before .before .before .before .join-equalities .ensures) in (good .terms, live-labels S m good (equalities-live S m good e))
-
-same-length-3 : tie.Need-same-length-3
-same-length-3 c = search needs
-
-same-length-4 : tie.Need-same-length-4
-same-length-4 c = search needs
 
 returns-2 : tie.Need-returns-2
 returns-2 c = let s = (c .before .before .before .before .before .before .before .before .before .before .before .before .before .before .before .before .before .before .before .before .before .before) in let S = setOf (s .args .terms .now) (s .args .propositions .now) in let m = s .args .marks .now in let good = s .pre .0 .0 in let e = rw (not-false (c .before .before .before .before .before .before .before .before .before .before .before .join-equalities .result) (c .before .before .before .before .before .before .before .if1 .left)) at (c .before .before .before .before .before .before .before .before .before .before .before .join-equalities .ensures) in contradictory (closing-off S m good e (rw (not-true (c .before .before .before .before .close .result) (c .if2 .taken)) at (c .before .before .before .before .close .ensures)))
@@ -38,23 +26,11 @@ returns-2 c = let s = (c .before .before .before .before .before .before .before
 any-refuted-requires : tie.Need-any-refuted-requires
 any-refuted-requires c κs = let s = (c .before .before .before .before .before .before .before .before .before .before .before .before .before .before .before .before .before .before .before .before .before .before .before .before) in let S = setOf (s .args .terms .now) (s .args .propositions .now) in let m = s .args .marks .now in let good = s .pre .0 .0 in let e = rw (not-false (c .before .before .before .before .before .before .before .before .before .before .before .before .before .join-equalities .result) (c .before .before .before .before .before .before .before .before .before .if1 .left)) at (c .before .before .before .before .before .before .before .before .before .before .before .before .before .join-equalities .ensures) in let k = rw (not-false (c .before .before .before .before .before .before .close .result) (c .before .before .if2 .left)) at (c .before .before .before .before .before .before .close .ensures) in let f = closing-on S m good e k in let d = closing-columns (S .terms) (S .term) k in ((rw (f .reps-count) (good .propositions), d), s .pre .0 .1)
 
-same-length-5 : tie.Need-same-length-5
-same-length-5 c = search needs
-
-same-length-6 : tie.Need-same-length-6
-same-length-6 c = search needs
-
 returns-3 : tie.Need-returns-3
 returns-3 c = let s = (c .before .before .before .before .before .before .before .before .before .before .before .before .before .before .before .before .before .before .before .before .before .before .before .before .before .before) in let S = setOf (s .args .terms .now) (s .args .propositions .now) in let m = s .args .marks .now in let good = s .pre .0 .0 in let e = rw (not-false (c .before .before .before .before .before .before .before .before .before .before .before .before .before .before .before .join-equalities .result) (c .before .before .before .before .before .before .before .before .before .before .before .if1 .left)) at (c .before .before .before .before .before .before .before .before .before .before .before .before .before .before .before .join-equalities .ensures) in let k = rw (not-false (c .before .before .before .before .before .before .before .before .close .result) (c .before .before .before .before .if2 .left)) at (c .before .before .before .before .before .before .before .before .close .ensures) in let f = closing-on S m good e k in let d = closing-columns (S .terms) (S .term) k in contradictory (refuted-fails S m good (f .live) (rw (c .if3 .taken) at (c .before .any-refuted .ensures)))
 
 variables-meet-requires : tie.Need-variables-meet-requires
 variables-meet-requires c κs = let s = (c .before .before .before .before .before .before .before .before .before .before .before .before .before .before .before .before .before .before .before .before .before .before .before .before .before .before .before) in let S = setOf (s .args .terms .now) (s .args .propositions .now) in let m = s .args .marks .now in let good = s .pre .0 .0 in let e = rw (not-false (c .before .before .before .before .before .before .before .before .before .before .before .before .before .before .before .before .join-equalities .result) (c .before .before .before .before .before .before .before .before .before .before .before .before .if1 .left)) at (c .before .before .before .before .before .before .before .before .before .before .before .before .before .before .before .before .join-equalities .ensures) in let k = rw (not-false (c .before .before .before .before .before .before .before .before .before .close .result) (c .before .before .before .before .before .if2 .left)) at (c .before .before .before .before .before .before .before .before .before .close .ensures) in let f = closing-on S m good e k in let d = closing-columns (S .terms) (S .term) k in ((good .few-terms, f .reps-count), d .below)
-
-same-length-7 : tie.Need-same-length-7
-same-length-7 c = search needs
-
-same-length-8 : tie.Need-same-length-8
-same-length-8 c = search needs
 
 returns-4 : tie.Need-returns-4
 returns-4 c = let s = (c .before .before .before .before .before .before .before .before .before .before .before .before .before .before .before .before .before .before .before .before .before .before .before .before .before .before .before .before) in let S = setOf (s .args .terms .now) (s .args .propositions .now) in let m = s .args .marks .now in let good = s .pre .0 .0 in let e = rw (not-false (c .before .before .before .before .before .before .before .before .before .before .before .before .before .before .before .before .before .join-equalities .result) (c .before .before .before .before .before .before .before .before .before .before .before .before .before .if1 .left)) at (c .before .before .before .before .before .before .before .before .before .before .before .before .before .before .before .before .before .join-equalities .ensures) in let k = rw (not-false (c .before .before .before .before .before .before .before .before .before .before .close .result) (c .before .before .before .before .before .before .if2 .left)) at (c .before .before .before .before .before .before .before .before .before .before .close .ensures) in let f = closing-on S m good e k in let d = closing-columns (S .terms) (S .term) k in decided S m good f (rw (c .before .before .if3 .left) at (c .before .before .before .any-refuted .ensures)) (c .variables-meet .result) (c .variables-meet .ensures)
@@ -65,18 +41,18 @@ is-consistent-spec =
     (tie.spec
     reset-requires
     join-equalities-requires
-    same-length
-    same-length-2
+    (λ c. search needs)
+    (λ c. search needs)
     returns
     close-requires
-    same-length-3
-    same-length-4
+    (λ c. search needs)
+    (λ c. search needs)
     returns-2
     any-refuted-requires
-    same-length-5
-    same-length-6
+    (λ c. search needs)
+    (λ c. search needs)
     returns-3
     variables-meet-requires
-    same-length-7
-    same-length-8
+    (λ c. search needs)
+    (λ c. search needs)
     returns-4)

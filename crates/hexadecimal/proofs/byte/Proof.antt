@@ -8,15 +8,6 @@ use Rattle.hexadecimal.specs.Hex.{spelled-value, spelled-bad, digit-belo
 use Rattle.hexadecimal.proofs.byte.Statement.{statement}
 use Rattle.hexadecimal.proofs.byte.Tie as tie
 
-digit-requires : tie.Need-digit-requires
-digit-requires c κs = search needs
-
-enum-known-h : tie.Need-enum-known-h
-enum-known-h c = search needs
-
-enum-told : tie.Need-enum-told
-enum-told c = search needs
-
 returns : tie.Need-returns
 returns c =
     rw (spelled-bad (digit (c .before .before .before .args .high)) (sym (c .before .before .digit .ensures) ∙ c .enum-told .given .1))
@@ -26,15 +17,6 @@ high-value c = spelled-value _ _ (sym (c .before .before .before .digit .ensures
 
 low-value : (c : tie.After-known-told2) → digit (c .before .before .before .before .before .before .before .before .args .low) ≡ some (c .before .l .given .0 .0)
 low-value c = spelled-value _ _ (sym (c .before .before .before .digit2 .ensures) ∙ c .before .l .given .1)
-
-digit-requires-2 : tie.Need-digit-requires-2
-digit-requires-2 c κs = search needs
-
-enum-known-l : tie.Need-enum-known-l
-enum-known-l c = search needs
-
-enum-told-2 : tie.Need-enum-told-2
-enum-told-2 c = search needs
 
 returns-2 : tie.Need-returns-2
 returns-2 c =
@@ -54,13 +36,13 @@ pub byte-spec : {M : Type 1} → statement M
 byte-spec =
     tie.close
     (tie.spec
-    digit-requires
-    enum-known-h
-    enum-told
+    (λ c κs. search needs)
+    (λ c. search needs)
+    (λ c. search needs)
     returns
-    digit-requires-2
-    enum-known-l
-    enum-told-2
+    (λ c κs. search needs)
+    (λ c. search needs)
+    (λ c. search needs)
     returns-2
     mul-t7
     add-t8

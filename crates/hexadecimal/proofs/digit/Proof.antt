@@ -8,9 +8,6 @@ use Rattle.text.specs.Lines.{digit}
 use Rattle.hexadecimal.proofs.digit.Statement.{statement}
 use Rattle.hexadecimal.proofs.digit.Tie as tie
 
-add-t6 : tie.Need-add-t6
-add-t6 c = search needs
-
 returns : tie.Need-returns
 unfolding digit
 returns c = let x = c .before .before .args .c in simp (le-leb 48 x (omega arith), le-leb x 57 (omega arith))
@@ -35,4 +32,4 @@ unfolding digit
 returns-5 c = let x = c .before .before .before .before .args .c in simp (le-leb 48 x (omega arith), lt-leb x 57 (omega arith), le-leb 65 x (omega arith), lt-leb x 70 (omega arith))
 
 pub digit-spec : {M : Type 1} → statement M
-digit-spec = tie.close (tie.spec add-t6 returns returns-2 returns-3 returns-4 returns-5)
+digit-spec = tie.close (tie.spec (λ c. search needs) returns returns-2 returns-3 returns-4 returns-5)

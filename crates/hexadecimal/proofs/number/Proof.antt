@@ -24,9 +24,6 @@ mul-n c =
     let k = c .before .loop .k in
     omega (arith, below-four (c .before .loop .n * 256 + 0) (k + 1) (more-below (c .before .loop .n) k 0 (c .before .loop .inv .2) (omega arith)) (omega arith))
 
-shared-slice-read-n : tie.Need-shared-slice-read-n Inv-loop μ-loop
-shared-slice-read-n c = omega arith
-
 cast-n : tie.Need-cast-n Inv-loop μ-loop
 cast-n c = omega (arith, c .shared-slice-known .given (c .before .before .loop .k))
 
@@ -36,12 +33,6 @@ add-n c =
     let b = getD (c .before .before .before .args .bytes .now) k 0 in
     let h = c .shared-slice-known .given k in
     omega (arith, below-four (c .before .before .loop .n * 256 + b) (k + 1) (more-below (c .before .before .loop .n) k b (c .before .before .loop .inv .2) (omega arith)) (omega arith))
-
-add-k : tie.Need-add-k Inv-loop μ-loop
-add-k c = omega arith
-
-loop-less : tie.Need-loop-less Inv-loop μ-loop
-loop-less c = omega arith
 
 loop-again : tie.Need-loop-again Inv-loop μ-loop
 loop-again c =
@@ -67,10 +58,10 @@ number-spec =
     μ-loop
     loop-holds
     mul-n
-    shared-slice-read-n
+    (λ c. omega arith)
     cast-n
     add-n
-    add-k
-    loop-less
+    (λ c. omega arith)
+    (λ c. omega arith)
     loop-again
     returns)

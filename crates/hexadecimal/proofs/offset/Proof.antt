@@ -10,12 +10,6 @@ use borrow.Author.Needs.{needs}
 use Rattle.hexadecimal.proofs.offset.Statement.{statement}
 use Rattle.hexadecimal.proofs.offset.Tie as tie
 
-cast-result : tie.Need-cast-result
-cast-result c = search needs
-
-cast-result-2 : tie.Need-cast-result-2
-cast-result-2 c = search needs
-
 sub-result : tie.Need-sub-result
 sub-result c = let n = c .before .args .bits in rw (less-whole n (omega arith)) (record { sfits = omega arith })
 
@@ -29,4 +23,4 @@ returns-2 c =
     rw (e, toZ-ofZ w64 (negsuc (2 ^ 32 - suc n)) (record { sfits = omega arith }), signed-high n (omega arith))
 
 pub offset-spec : {M : Type 1} → statement M
-offset-spec = tie.close (tie.spec cast-result cast-result-2 sub-result returns returns-2)
+offset-spec = tie.close (tie.spec (λ c. search needs) (λ c. search needs) sub-result returns returns-2)

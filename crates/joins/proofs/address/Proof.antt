@@ -9,20 +9,11 @@ use Rattle.joins.specs.Labels.{labels-near}
 use Rattle.joins.proofs.address.Statement.{statement}
 use Rattle.joins.proofs.address.Tie as tie
 
-index-requires : tie.Need-index-requires
-index-requires c κs = search needs
-
 find-requires : tie.Need-find-requires
 find-requires c κs = let s = (c .before .before .before .before) in ((s .pre .0 .links, labels-near (s .pre .0)), rw (c .index .ensures) (s .pre .1 .0))
 
 sum-requires : tie.Need-sum-requires
 sum-requires c κs = let s = (c .before .before .before .before .before .before .before .before .before .before .before) in let f = c .before .before .before .before .before .before .find .ensures in let w = s .pre .1 .1 in let b : Within far (c .before .before .before .before .before .before .find .result .offset) = rw (f .offset, c .before .before .before .before .before .before .before .index .ensures) (labels-near (s .pre .0) .near (s .pre .1 .0)) in rw (toZ-ofZ w64 (s .args .r .offset) (offset-fits w), toZ-ofZ w64 (c .before .before .before .before .before .before .find .result .offset) (far-fits b)) (address-fits w b)
-
-same-length : tie.Need-same-length
-same-length c = search needs
-
-same-length-2 : tie.Need-same-length-2
-same-length-2 c = search needs
 
 returns : tie.Need-returns
 returns c = let s = (c .before .before .before .before .before .before .before .before .before .before .before .before) in let f = c .before .before .before .before .before .before .before .find .ensures in let w = s .pre .1 .1 in let b : Within far (c .before .before .before .before .before .before .before .find .result .offset) = rw (f .offset, c .before .before .before .before .before .before .before .before .index .ensures) (labels-near (s .pre .0) .near (s .pre .1 .0)) in
@@ -36,4 +27,4 @@ returns c = let s = (c .before .before .before .before .before .before .before .
 pub address-spec : {M : Type 1} → statement M
 address-spec =
     tie.close
-    (tie.spec index-requires find-requires sum-requires same-length same-length-2 returns)
+    (tie.spec (λ c κs. search needs) find-requires sum-requires (λ c. search needs) (λ c. search needs) returns)

@@ -20,12 +20,6 @@ loop-holds c = (omega arith, (unchanged-self ((c .before .before) .pre .1), (ref
 add-s : tie.Need-add-s Inv-loop μ-loop
 add-s c = omega (arith, c .loop-test .taken)
 
-slot-requires : tie.Need-slot-requires Inv-loop μ-loop
-slot-requires c κs = search needs
-
-set-slot-requires : tie.Need-set-slot-requires Inv-loop μ-loop
-set-slot-requires c κs = search needs
-
 same-length : tie.Need-same-length Inv-loop μ-loop
 same-length c = c .before .before .before .before .before .before .before .before .loop .inv .1 .0 .long
 
@@ -97,8 +91,8 @@ lookup-spec =
     μ-loop
     loop-holds
     add-s
-    slot-requires
-    set-slot-requires
+    (λ c κs. search needs)
+    (λ c κs. search needs)
     same-length
     same-length-2
     same-length-3

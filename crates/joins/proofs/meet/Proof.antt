@@ -8,9 +8,6 @@ use borrow.Author.Needs.{needs}
 use Rattle.joins.proofs.meet.Statement.{statement}
 use Rattle.joins.proofs.meet.Tie as tie
 
-term-at-requires : tie.Need-term-at-requires
-term-at-requires c κs = search needs
-
 returns : tie.Need-returns
 returns c = as-before (unchanged-self ((c .before .before .before .before) .pre .0 .1))
 
@@ -20,50 +17,17 @@ address-requires c κs = let s = (c .before .before .before .before .before .bef
 reads-requires : tie.Need-reads-requires
 reads-requires c κs = let s = (c .before .before .before .before .before .before .before .before .before .before .before .before) in (s .pre .0 .0, (unchanged-labels (c .before .before .before .before .before .address .ensures .unchanged) (s .pre .0 .1), s .pre .1 .1))
 
-same-length : tie.Need-same-length
-same-length c = search needs
-
-same-length-2 : tie.Need-same-length-2
-same-length-2 c = search needs
-
 returns-2 : tie.Need-returns-2
 returns-2 c = as-before (unchanged-then (c .before .before .before .before .before .before .before .before .before .before .address .ensures .unchanged) (reads-not (rw (not-true (c .before .before .before .before .reads .result) (c .if2 .taken)) at (c .before .before .before .before .reads .ensures))))
 
 join-requires : tie.Need-join-requires
 join-requires c κs = let s = (c .before .before .before .before .before .before .before .before .before .before .before .before .before .before .before .before .before .before .before) in let t = tested (length (s .args .terms .now)) (termAt (s .args .terms .now)) (c .before .before .before .before .before .before .before .before .before .before .before .before .before .before .before .before .before .term-at .ensures) (c .before .before .before .before .before .before .before .before .before .before .before .before .before .before .before .if1 .left) (c .before .before .before .before .before .before .before .before .before .before .before .before .address .ensures) (rw (not-false (c .before .before .before .before .before .before .reads .result) (c .before .before .if2 .left)) at (c .before .before .before .before .before .before .reads .ensures)) in let L = unchanged-labels (t .unchanged) (s .pre .0 .1) in ((L .links, labels-near L), (rw (L .count) (s .pre .1 .0), (rw (L .count) (s .pre .1 .1), within-zero)))
 
-enum-told : tie.Need-enum-told
-enum-told c = search needs
-
-enum-told-2 : tie.Need-enum-told-2
-enum-told-2 c = search needs
-
-enum-told-3 : tie.Need-enum-told-3
-enum-told-3 c = search needs
-
-same-length-3 : tie.Need-same-length-3
-same-length-3 c = search needs
-
-same-length-4 : tie.Need-same-length-4
-same-length-4 c = search needs
-
 returns-3 : tie.Need-returns-3
 returns-3 c = let s = (c .before .before .before .before .before .before .before .before .before .before .before .before .before .before .before .before .before .before .before .before .before .before .before .before .before) in let t = tested (length (s .args .terms .now)) (termAt (s .args .terms .now)) (c .before .before .before .before .before .before .before .before .before .before .before .before .before .before .before .before .before .before .before .before .before .before .before .term-at .ensures) (c .before .before .before .before .before .before .before .before .before .before .before .before .before .before .before .before .before .before .before .before .before .if1 .left) (c .before .before .before .before .before .before .before .before .before .before .before .before .before .before .before .before .before .before .address .ensures) (rw (not-false (c .before .before .before .before .before .before .before .before .before .before .before .before .reads .result) (c .before .before .before .before .before .before .before .before .if2 .left)) at (c .before .before .before .before .before .before .before .before .before .before .before .before .reads .ensures)) in met-joined (length (s .args .terms .now)) (termAt (s .args .terms .now)) (s .pre .0 .1) (s .pre .1 .0) (s .pre .1 .1) t (rw (c .enum-told .given .1) at (c .before .before .before .before .before .join .ensures))
 
-same-length-5 : tie.Need-same-length-5
-same-length-5 c = search needs
-
-same-length-6 : tie.Need-same-length-6
-same-length-6 c = search needs
-
 returns-4 : tie.Need-returns-4
 returns-4 c = let s = (c .before .before .before .before .before .before .before .before .before .before .before .before .before .before .before .before .before .before .before .before .before .before .before .before .before) in let t = tested (length (s .args .terms .now)) (termAt (s .args .terms .now)) (c .before .before .before .before .before .before .before .before .before .before .before .before .before .before .before .before .before .before .before .before .before .before .before .term-at .ensures) (c .before .before .before .before .before .before .before .before .before .before .before .before .before .before .before .before .before .before .before .before .before .if1 .left) (c .before .before .before .before .before .before .before .before .before .before .before .before .before .before .before .before .before .before .address .ensures) (rw (not-false (c .before .before .before .before .before .before .before .before .before .before .before .before .reads .result) (c .before .before .before .before .before .before .before .before .if2 .left)) at (c .before .before .before .before .before .before .before .before .before .before .before .before .reads .ensures)) in met-held (length (s .args .terms .now)) (termAt (s .args .terms .now)) (s .pre .0 .1) (s .pre .1 .0) (s .pre .1 .1) t (rw (c .enum-told2 .given .1) at (c .before .before .before .before .before .join .ensures))
-
-same-length-7 : tie.Need-same-length-7
-same-length-7 c = search needs
-
-same-length-8 : tie.Need-same-length-8
-same-length-8 c = search needs
 
 returns-5 : tie.Need-returns-5
 returns-5 c = let s = (c .before .before .before .before .before .before .before .before .before .before .before .before .before .before .before .before .before .before .before .before .before .before .before .before .before) in let t = tested (length (s .args .terms .now)) (termAt (s .args .terms .now)) (c .before .before .before .before .before .before .before .before .before .before .before .before .before .before .before .before .before .before .before .before .before .before .before .term-at .ensures) (c .before .before .before .before .before .before .before .before .before .before .before .before .before .before .before .before .before .before .before .before .before .if1 .left) (c .before .before .before .before .before .before .before .before .before .before .before .before .before .before .before .before .before .before .address .ensures) (rw (not-false (c .before .before .before .before .before .before .before .before .before .before .before .before .reads .result) (c .before .before .before .before .before .before .before .before .if2 .left)) at (c .before .before .before .before .before .before .before .before .before .before .before .before .reads .ensures)) in met-clashed (length (s .args .terms .now)) (termAt (s .args .terms .now)) (s .pre .0 .1) (s .pre .1 .0) (s .pre .1 .1) t (rw (c .enum-told3 .given .1) at (c .before .before .before .before .before .join .ensures))
@@ -72,23 +36,23 @@ pub meet-spec : {M : Type 1} → statement M
 meet-spec =
     tie.close
     (tie.spec
-    term-at-requires
+    (λ c κs. search needs)
     returns
     address-requires
     reads-requires
-    same-length
-    same-length-2
+    (λ c. search needs)
+    (λ c. search needs)
     returns-2
     join-requires
-    enum-told
-    enum-told-2
-    enum-told-3
-    same-length-3
-    same-length-4
+    (λ c. search needs)
+    (λ c. search needs)
+    (λ c. search needs)
+    (λ c. search needs)
+    (λ c. search needs)
     returns-3
-    same-length-5
-    same-length-6
+    (λ c. search needs)
+    (λ c. search needs)
     returns-4
-    same-length-7
-    same-length-8
+    (λ c. search needs)
+    (λ c. search needs)
     returns-5)

@@ -17,47 +17,11 @@ find-requires-2 c κs = let s = (c .before .before .before .before .before .befo
 meet-requires : tie.Need-meet-requires
 meet-requires c κs = let s = (c .before .before .before .before .before .before .before .before .before .before .before .before .before .before .before .before .before) in let u = unchanged-then (found-unchanged (c .before .before .before .before .before .before .before .before .before .before .before .find .ensures)) (found-unchanged (c .before .before .before .before .before .find2 .ensures)) in ((s .pre .0 .0, unchanged-labels u (s .pre .0 .1)), s .pre .1)
 
-enum-told : tie.Need-enum-told
-enum-told c = search needs
-
-enum-told-2 : tie.Need-enum-told-2
-enum-told-2 c = search needs
-
-join-uses-requires : tie.Need-join-uses-requires
-join-uses-requires c κs = search needs
-
-enum-told-3 : tie.Need-enum-told-3
-enum-told-3 c = search needs
-
-same-length : tie.Need-same-length
-same-length c = search needs
-
-same-length-2 : tie.Need-same-length-2
-same-length-2 c = search needs
-
 returns : tie.Need-returns
 returns c = let s = (c .before .before .before .before .before .before .before .before .before .before .before .before .before .before .before .before .before .before .before .before .before .before .before) in let u = unchanged-then (found-unchanged (c .before .before .before .before .before .before .before .before .before .before .before .before .before .before .before .before .before .find .ensures)) (found-unchanged (c .before .before .before .before .before .before .before .before .before .before .before .find2 .ensures)) in let k = unchanged-chased (length (s .args .terms .now)) (termAt (s .args .terms .now)) (s .pre .0 .1) start refl u in meeting-going (length (s .args .terms .now)) (termAt (s .args .terms .now)) (s .pre .1 .0) (s .pre .1 .1) k (rw (c .enum-told .given .1) at (c .before .before .before .before .before .meet .ensures))
 
-same-length-3 : tie.Need-same-length-3
-same-length-3 c = search needs
-
-same-length-4 : tie.Need-same-length-4
-same-length-4 c = search needs
-
-same-length-5 : tie.Need-same-length-5
-same-length-5 c = search needs
-
-same-length-6 : tie.Need-same-length-6
-same-length-6 c = search needs
-
 returns-2 : tie.Need-returns-2
 returns-2 c = let s = (c .before .before .before .before .before .before .before .before .before .before .before .before .before .before .before .before .before .before .before .before .before .before .before .before .before .before .before .before .before .before) in let u = unchanged-then (found-unchanged (c .before .before .before .before .before .before .before .before .before .before .before .before .before .before .before .before .before .before .before .before .before .before .before .before .find .ensures)) (found-unchanged (c .before .before .before .before .before .before .before .before .before .before .before .before .before .before .before .before .before .before .find2 .ensures)) in let k = unchanged-chased (length (s .args .terms .now)) (termAt (s .args .terms .now)) (s .pre .0 .1) start refl u in meeting-joined (length (s .args .terms .now)) (termAt (s .args .terms .now)) (s .pre .1 .0) (s .pre .1 .1) k (rw (c .before .before .before .before .before .before .before .enum-told2 .given .1) at (c .before .before .before .before .before .before .before .before .before .before .before .before .meet .ensures))
-
-same-length-7 : tie.Need-same-length-7
-same-length-7 c = search needs
-
-same-length-8 : tie.Need-same-length-8
-same-length-8 c = search needs
 
 returns-3 : tie.Need-returns-3
 returns-3 c = let s = (c .before .before .before .before .before .before .before .before .before .before .before .before .before .before .before .before .before .before .before .before .before .before .before) in let u = unchanged-then (found-unchanged (c .before .before .before .before .before .before .before .before .before .before .before .before .before .before .before .before .before .find .ensures)) (found-unchanged (c .before .before .before .before .before .before .before .before .before .before .before .find2 .ensures)) in let k = unchanged-chased (length (s .args .terms .now)) (termAt (s .args .terms .now)) (s .pre .0 .1) start refl u in meeting-clashed (length (s .args .terms .now)) (termAt (s .args .terms .now)) k (rw (c .enum-told3 .given .1) at (c .before .before .before .before .before .meet .ensures))
@@ -69,18 +33,18 @@ merge-spec =
     find-requires
     find-requires-2
     meet-requires
-    enum-told
-    enum-told-2
-    join-uses-requires
-    enum-told-3
-    same-length
-    same-length-2
+    (λ c. search needs)
+    (λ c. search needs)
+    (λ c κs. search needs)
+    (λ c. search needs)
+    (λ c. search needs)
+    (λ c. search needs)
     returns
-    same-length-3
-    same-length-4
-    same-length-5
-    same-length-6
+    (λ c. search needs)
+    (λ c. search needs)
+    (λ c. search needs)
+    (λ c. search needs)
     returns-2
-    same-length-7
-    same-length-8
+    (λ c. search needs)
+    (λ c. search needs)
     returns-3)

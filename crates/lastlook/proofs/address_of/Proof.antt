@@ -11,12 +11,6 @@ use Rattle.lastlook.specs.Addresses.{inner-below, offset-limited, inner-
 use Rattle.lastlook.proofs.address_of.Statement.{statement}
 use Rattle.lastlook.proofs.address_of.Tie as tie
 
-term-at-requires : tie.Need-term-at-requires
-term-at-requires c κs = search needs
-
-index-requires : tie.Need-index-requires
-index-requires c κs = search needs
-
 mul-sum : tie.Need-mul-sum
 mul-sum c =
     let s = c .before .before .before in
@@ -51,8 +45,8 @@ pub address-of-spec : {M : Type 1} → statement M
 address-of-spec =
     tie.close
     (tie.spec
-    term-at-requires
-    index-requires
+    (λ c κs. search needs)
+    (λ c κs. search needs)
     mul-sum
     shared-slice-copy-out-sum
     sum-requires

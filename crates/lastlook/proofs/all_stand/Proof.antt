@@ -21,44 +21,17 @@ abbrev μ-loop : tie.MeasureT-loop
 loop-holds : tie.Need-loop-holds Inv-loop μ-loop
 loop-holds c = (omega arith, below-none _)
 
-is-deref-requires : tie.Need-is-deref-requires Inv-loop μ-loop
-is-deref-requires c κs = omega arith
-
-add-x : tie.Need-add-x Inv-loop μ-loop
-add-x c = omega arith
-
-loop-less : tie.Need-loop-less Inv-loop μ-loop
-loop-less c = omega arith
-
 loop-again : tie.Need-loop-again Inv-loop μ-loop
 loop-again c = (omega arith, below-more _ (c .before .before .before .loop .x) (c .before .before .before .loop .inv .1) (λ d. absurd (eqb-false _ _ (sym (c .before .is-deref .ensures) ∙ not-true _ (c .if1 .taken)) d)))
 
-mul-i : tie.Need-mul-i Inv-loop μ-loop
-mul-i c = omega arith
-
-element-copy-out-i : tie.Need-element-copy-out-i Inv-loop μ-loop
-element-copy-out-i c = omega arith
-
 returns : tie.Need-returns Inv-loop μ-loop
 returns c = not-all
-
-mul-if3 : tie.Need-mul-if3 Inv-loop μ-loop
-mul-if3 c = omega arith
-
-element-copy-out-if3 : tie.Need-element-copy-out-if3 Inv-loop μ-loop
-element-copy-out-if3 c = omega arith
 
 word-requires : tie.Need-word-requires Inv-loop μ-loop
 word-requires c κs = (c .before .before .before .before .before .before .before .before .pre .0, (omega (arith, c .before .before .before .before .before .loop-test .taken), eqb-true _ _ (sym (c .before .before .before .before .is-deref .ensures) ∙ not-false _ (c .before .before .before .if1 .left))))
 
 returns-2 : tie.Need-returns-2 Inv-loop μ-loop
 returns-2 c = not-all
-
-add-x-2 : tie.Need-add-x-2 Inv-loop μ-loop
-add-x-2 c = omega arith
-
-loop-less-2 : tie.Need-loop-less-2 Inv-loop μ-loop
-loop-less-2 c = omega arith
 
 loop-again-2 : tie.Need-loop-again-2 Inv-loop μ-loop
 loop-again-2 c =
@@ -76,18 +49,18 @@ all-stand-spec =
     Inv-loop
     μ-loop
     loop-holds
-    is-deref-requires
-    add-x
-    loop-less
+    (λ c κs. omega arith)
+    (λ c. omega arith)
+    (λ c. omega arith)
     loop-again
-    mul-i
-    element-copy-out-i
+    (λ c. omega arith)
+    (λ c. omega arith)
     returns
-    mul-if3
-    element-copy-out-if3
+    (λ c. omega arith)
+    (λ c. omega arith)
     word-requires
     returns-2
-    add-x-2
-    loop-less-2
+    (λ c. omega arith)
+    (λ c. omega arith)
     loop-again-2
     returns-3)

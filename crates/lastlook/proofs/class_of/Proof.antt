@@ -6,12 +6,6 @@ use borrow.Author.Needs.{needs}
 use Rattle.lastlook.proofs.class_of.Statement.{statement}
 use Rattle.lastlook.proofs.class_of.Tie as tie
 
-term-at-requires : tie.Need-term-at-requires
-term-at-requires c κs = search needs
-
-index-requires : tie.Need-index-requires
-index-requires c κs = search needs
-
 mul-result : tie.Need-mul-result
 mul-result c = let e = c .index .ensures ∙ ap (λ (r : TermRecord). r .number) (c .before .term-at .ensures) in omega arith
 
@@ -24,4 +18,4 @@ returns c = let e = c .before .index .ensures ∙ ap (λ (r : TermRecord). r .nu
 pub class-of-spec : {M : Type 1} → statement M
 class-of-spec =
     tie.close
-    (tie.spec term-at-requires index-requires mul-result shared-slice-read-result returns)
+    (tie.spec (λ c κs. search needs) (λ c κs. search needs) mul-result shared-slice-read-result returns)

@@ -15,28 +15,16 @@ returns c = right (record { rises = omega arith; agrees = λ e. absurd (omega ar
 returns-2 : tie.Need-returns-2
 returns-2 c = wrong
 
-index-requires : tie.Need-index-requires
-index-requires c κs = search needs
-
-index-requires-2 : tie.Need-index-requires-2
-index-requires-2 c κs = search needs
-
 returns-3 : tie.Need-returns-3
 returns-3 c = wrong
 
 returns-4 : tie.Need-returns-4
 returns-4 c = wrong
 
-same-label-requires : tie.Need-same-label-requires
-same-label-requires c κs = search needs
-
 returns-5 : tie.Need-returns-5
 returns-5 c =
     let h = holds-true _ (comparison (c .before .before .before .before .before .index .result) (pos 0) (c .before .before .before .before .index2 .result)) (sym (c .before .same-label .ensures) ∙ c .if5 .taken) in
     right (record { rises = omega (arith, c .before .before .before .before .before .before .before .if1 .left, c .before .before .before .before .before .before .if2 .left); agrees = λ e. rw (c .before .before .before .before .before .index .ensures, c .before .before .before .before .index2 .ensures) at h })
-
-is-unequal-requires : tie.Need-is-unequal-requires
-is-unequal-requires c κs = search needs
 
 returns-6 : tie.Need-returns-6
 returns-6 c = unequal-found (c .before .before .before .before .before .if3 .left) (c .before .before .before .before .if4 .left) (rw (c .if6 .taken) at (c .before .is-unequal .ensures))
@@ -50,12 +38,12 @@ compare-spec =
     (tie.spec
     returns
     returns-2
-    index-requires
-    index-requires-2
+    (λ c κs. search needs)
+    (λ c κs. search needs)
     returns-3
     returns-4
-    same-label-requires
+    (λ c κs. search needs)
     returns-5
-    is-unequal-requires
+    (λ c κs. search needs)
     returns-6
     returns-7)

@@ -18,44 +18,14 @@ abbrev μ-loop : tie.MeasureT-loop
 loop-holds : tie.Need-loop-holds Inv-loop μ-loop
 loop-holds c = (omega arith, λ k l h. absurd (omega arith))
 
-sub-compare : tie.Need-sub-compare Inv-loop μ-loop
-sub-compare c = omega arith
-
-mul-compare : tie.Need-mul-compare Inv-loop μ-loop
-mul-compare c = omega arith
-
-element-copy-out-compare : tie.Need-element-copy-out-compare Inv-loop μ-loop
-element-copy-out-compare c = omega arith
-
-mul-compare-2 : tie.Need-mul-compare-2 Inv-loop μ-loop
-mul-compare-2 c = omega arith
-
-element-copy-out-compare-2 : tie.Need-element-copy-out-compare-2 Inv-loop μ-loop
-element-copy-out-compare-2 c = omega arith
-
 compare-requires : tie.Need-compare-requires Inv-loop μ-loop
 compare-requires c κs = c .before .before .before .before .before .pre .0
-
-enum-known-x : tie.Need-enum-known-x Inv-loop μ-loop
-enum-known-x c = search needs
 
 returns : tie.Need-returns Inv-loop μ-loop
 returns c = tested-as _ (rw (c .before .x .given .1) at (c .before .before .before .compare .ensures))
 
-enum-told : tie.Need-enum-told Inv-loop μ-loop
-enum-told c = search needs
-
 returns-2 : tie.Need-returns-2 Inv-loop μ-loop
 returns-2 c = wrong
-
-enum-told-2 : tie.Need-enum-told-2 Inv-loop μ-loop
-enum-told-2 c = search needs
-
-add-i : tie.Need-add-i Inv-loop μ-loop
-add-i c = omega arith
-
-loop-less : tie.Need-loop-less Inv-loop μ-loop
-loop-less c = omega arith
 
 loop-again : tie.Need-loop-again Inv-loop μ-loop
 loop-again c = (omega arith, below-more _ (c .before .before .before .before .before .before .loop .i) (c .before .before .before .before .before .before .loop .inv .1) (λ h. tested-right (rw (c .enum-told2 .given .1) at (c .before .before .compare .ensures))))
@@ -70,18 +40,18 @@ compare-all-spec =
     Inv-loop
     μ-loop
     loop-holds
-    sub-compare
-    mul-compare
-    element-copy-out-compare
-    mul-compare-2
-    element-copy-out-compare-2
+    (λ c. omega arith)
+    (λ c. omega arith)
+    (λ c. omega arith)
+    (λ c. omega arith)
+    (λ c. omega arith)
     compare-requires
-    enum-known-x
+    (λ c. search needs)
     returns
-    enum-told
+    (λ c. search needs)
     returns-2
-    enum-told-2
-    add-i
-    loop-less
+    (λ c. search needs)
+    (λ c. omega arith)
+    (λ c. omega arith)
     loop-again
     returns-3)

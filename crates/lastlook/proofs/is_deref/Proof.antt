@@ -6,11 +6,8 @@ use borrow.Author.Needs.{needs}
 use Rattle.lastlook.proofs.is_deref.Statement.{statement}
 use Rattle.lastlook.proofs.is_deref.Tie as tie
 
-term-at-requires : tie.Need-term-at-requires
-term-at-requires c κs = search needs
-
 returns : tie.Need-returns
 returns c = ap (λ (r : TermRecord). eqb (r .kind) 3) (c .before .term-at .ensures)
 
 pub is-deref-spec : {M : Type 1} → statement M
-is-deref-spec = tie.close (tie.spec term-at-requires returns)
+is-deref-spec = tie.close (tie.spec (λ c κs. search needs) returns)

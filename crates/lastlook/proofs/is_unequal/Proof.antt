@@ -4,17 +4,11 @@ use Rattle.lastlook.specs.Addresses.{not-met, met, unequal-by}
 use Rattle.lastlook.proofs.is_unequal.Statement.{statement}
 use Rattle.lastlook.proofs.is_unequal.Tie as tie
 
-same-address-requires : tie.Need-same-address-requires
-same-address-requires c κs = search needs
-
 returns : tie.Need-returns
 returns c = not-met (c .before .same-address .ensures) (c .if1 .taken)
-
-same-label-requires : tie.Need-same-label-requires
-same-label-requires c κs = search needs
 
 returns-2 : tie.Need-returns-2
 returns-2 c = unequal-by (met (c .before .before .same-address .ensures) (c .before .if1 .left)) (c .same-label .result) (c .same-label .ensures)
 
 pub is-unequal-spec : {M : Type 1} → statement M
-is-unequal-spec = tie.close (tie.spec same-address-requires returns same-label-requires returns-2)
+is-unequal-spec = tie.close (tie.spec (λ c κs. search needs) returns (λ c κs. search needs) returns-2)

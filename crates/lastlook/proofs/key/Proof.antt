@@ -7,15 +7,6 @@ use Rattle.lastlook.specs.Order.{keyOf}
 use Rattle.lastlook.proofs.key.Statement.{statement}
 use Rattle.lastlook.proofs.key.Tie as tie
 
-mul-result : tie.Need-mul-result
-mul-result c = search needs
-
-bits-requires : tie.Need-bits-requires
-bits-requires c κs = search needs
-
-add-result : tie.Need-add-result
-add-result c = search needs
-
 returns : tie.Need-returns
 unfolding keyOf
 returns c =
@@ -23,4 +14,4 @@ returns c =
     (rw e, omega arith)
 
 pub key-spec : {M : Type 1} → statement M
-key-spec = tie.close (tie.spec mul-result bits-requires add-result returns)
+key-spec = tie.close (tie.spec (λ c. search needs) (λ c κs. search needs) (λ c. search needs) returns)

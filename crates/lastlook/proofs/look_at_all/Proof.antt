@@ -37,9 +37,6 @@ returns c = let p = pair-below _ (c .before .before .loop-test .taken) in unequa
 add-k : tie.Need-add-k Inv-loop μ-loop
 add-k c = omega (arith, pairs-few _ (c .before .before .before .before .before .pre .few), c .before .before .loop-test .taken)
 
-loop-less : tie.Need-loop-less Inv-loop μ-loop
-loop-less c = omega arith
-
 loop-again : tie.Need-loop-again Inv-loop μ-loop
 loop-again c = (omega arith, below-more _ (c .before .before .before .loop .k) (c .before .before .before .loop .inv .1) (not-unequal (rw (c .if1 .left) at (c .before .is-unequal .ensures))))
 
@@ -59,6 +56,6 @@ look-at-all-spec =
     is-unequal-requires
     returns
     add-k
-    loop-less
+    (λ c. omega arith)
     loop-again
     returns-2)

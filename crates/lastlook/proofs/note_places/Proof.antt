@@ -10,32 +10,8 @@ Inv-loop words count places₀ i₀ places i = i ≤ count
 abbrev μ-loop : tie.MeasureT-loop
 μ-loop words count places₀ i₀ places i = count - i
 
-loop-holds : tie.Need-loop-holds Inv-loop μ-loop
-loop-holds c = omega arith
-
-mul-index : tie.Need-mul-index Inv-loop μ-loop
-mul-index c = omega arith
-
-element-copy-out-index : tie.Need-element-copy-out-index Inv-loop μ-loop
-element-copy-out-index c = omega arith
-
 index-requires : tie.Need-index-requires Inv-loop μ-loop
 index-requires c κs = tt
-
-mul-places : tie.Need-mul-places Inv-loop μ-loop
-mul-places c = omega arith
-
-element-write-places : tie.Need-element-write-places Inv-loop μ-loop
-element-write-places c = omega arith
-
-add-i : tie.Need-add-i Inv-loop μ-loop
-add-i c = omega arith
-
-loop-less : tie.Need-loop-less Inv-loop μ-loop
-loop-less c = omega arith
-
-loop-again : tie.Need-loop-again Inv-loop μ-loop
-loop-again c = omega arith
 
 returns : tie.Need-returns Inv-loop μ-loop
 returns c = tt
@@ -46,13 +22,13 @@ note-places-spec =
     (tie.spec
     Inv-loop
     μ-loop
-    loop-holds
-    mul-index
-    element-copy-out-index
+    (λ c. omega arith)
+    (λ c. omega arith)
+    (λ c. omega arith)
     index-requires
-    mul-places
-    element-write-places
-    add-i
-    loop-less
-    loop-again
+    (λ c. omega arith)
+    (λ c. omega arith)
+    (λ c. omega arith)
+    (λ c. omega arith)
+    (λ c. omega arith)
     returns)

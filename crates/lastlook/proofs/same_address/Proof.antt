@@ -7,14 +7,8 @@ use Rattle.lastlook.specs.Addresses.{signed-same, apart, meeting-by, inn
 use Rattle.lastlook.proofs.same_address.Statement.{statement}
 use Rattle.lastlook.proofs.same_address.Tie as tie
 
-is-deref-requires : tie.Need-is-deref-requires
-is-deref-requires c κs = search needs
-
 returns : tie.Need-returns
 returns c = apart (λ s. eqb-false _ _ (sym (c .before .is-deref .ensures) ∙ not-true _ (c .if1 .taken)) (s .deref-x))
-
-is-deref-requires-2 : tie.Need-is-deref-requires-2
-is-deref-requires-2 c κs = search needs
 
 returns-2 : tie.Need-returns-2
 returns-2 c = apart (λ s. eqb-false _ _ (sym (c .before .is-deref2 .ensures) ∙ not-true _ (c .if2 .taken)) (s .deref-y))
@@ -40,9 +34,6 @@ address-of-requires c κs = let s = c .before .before .before .before .before .b
 address-of-requires-2 : tie.Need-address-of-requires-2
 address-of-requires-2 c κs = let s = c .before .before .before .before .before .before .before .before .before in (s .pre .0, (s .pre .1 .1, eqb-true _ _ (sym (c .before .before .before .before .before .is-deref2 .ensures) ∙ not-false _ (c .before .before .before .before .if2 .left))))
 
-is-same-requires : tie.Need-is-same-requires
-is-same-requires c κs = search needs
-
 returns-4 : tie.Need-returns-4
 returns-4 c =
     let a = c .before .before .address-of in
@@ -57,14 +48,14 @@ pub same-address-spec : {M : Type 1} → statement M
 same-address-spec =
     tie.close
     (tie.spec
-    is-deref-requires
+    (λ c κs. search needs)
     returns
-    is-deref-requires-2
+    (λ c κs. search needs)
     returns-2
     class-of-requires
     class-of-requires-2
     returns-3
     address-of-requires
     address-of-requires-2
-    is-same-requires
+    (λ c κs. search needs)
     returns-4)

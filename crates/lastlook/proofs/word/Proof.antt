@@ -10,14 +10,8 @@ use Rattle.lastlook.proofs.word.Tie as tie
 class-of-requires : tie.Need-class-of-requires
 class-of-requires c κs = let s = c .before in (s .pre .1 .0, omega (arith, inner-below (s .pre .0) (s .pre .1 .0) (s .pre .1 .1), s .pre .0 .reps-length))
 
-address-of-requires : tie.Need-address-of-requires
-address-of-requires c κs = search needs
-
 key-requires : tie.Need-key-requires
 key-requires c κs = let s = c .before .before .before in omega (arith, c .before .class-of .ensures, class-below (s .pre .0) (s .pre .1 .0) (s .pre .1 .1))
-
-mul-result : tie.Need-mul-result
-mul-result c = omega arith
 
 add-result : tie.Need-add-result
 add-result c = omega (arith, c .before .before .before .before .pre .0 .few)
@@ -28,4 +22,4 @@ returns c = rw (rw (toZ-ofZ w64 (c .before .address-of .result) (sfits-of (c .be
 pub word-spec : {M : Type 1} → statement M
 word-spec =
     tie.close
-    (tie.spec class-of-requires address-of-requires key-requires mul-result add-result returns)
+    (tie.spec class-of-requires (λ c κs. search needs) key-requires (λ c. omega arith) add-result returns)

@@ -13,9 +13,6 @@ mul-short-bytes c = omega (arith, square-small (c .args .n) (c .pre))
 add-short-bytes : tie.Need-add-short-bytes
 add-short-bytes c = omega (arith, square-small (c .args .n) (c .pre))
 
-refuse-requires : tie.Need-refuse-requires
-refuse-requires c κs = search needs
-
 returns : tie.Need-returns
 unfolding roomFault
 returns c = c .refuse .ensures ∙ rw (c .before .if1 .taken)
@@ -26,4 +23,4 @@ returns-2 c = rw (c .if1 .left)
 
 pub check-memory-spec : {M : Type 1} → statement M
 check-memory-spec =
-    tie.close (tie.spec mul-short-bytes add-short-bytes refuse-requires returns returns-2)
+    tie.close (tie.spec mul-short-bytes add-short-bytes (λ c κs. search needs) returns returns-2)

@@ -21,12 +21,6 @@ loop-holds c = filled-none _ 0 refl
 slice-write-cells : tie.Need-slice-write-cells Inv-loop μ-loop
 slice-write-cells c = let l = c .before .loop .inv .long in omega (arith, l)
 
-add-k : tie.Need-add-k Inv-loop μ-loop
-add-k c = omega arith
-
-loop-less : tie.Need-loop-less Inv-loop μ-loop
-loop-less c = omega arith
-
 loop-again : tie.Need-loop-again Inv-loop μ-loop
 loop-again c = let l = c .before in filled-more _ 0 (l .loop .inv) (omega arith) refl
 
@@ -44,8 +38,8 @@ fill-spec =
     μ-loop
     loop-holds
     slice-write-cells
-    add-k
-    loop-less
+    (λ c. omega arith)
+    (λ c. omega arith)
     loop-again
     same-length
     returns)

@@ -4,7 +4,6 @@ use Rattle.offsets.proofs.is_same.Tie as tie
 use Rattle.offsets.proofs.is_same.Reads as reads
 use Rattle.offsets.proofs.is_same.Lts as lts
 
--- src/lib.rt:38:1
 returns : tie.Need-returns
 returns c = same-bits (c .args .a) (c .args .b) (c .fits .a) (c .fits .b)
 

@@ -6,11 +6,9 @@ use Rattle.offsets.proofs.opposite.Tie as tie
 use Rattle.offsets.proofs.opposite.Reads as reads
 use Rattle.offsets.proofs.opposite.Lts as lts
 
--- src/lib.rt:35:5
 sub-result : tie.Need-sub-result
 sub-result c = rw (toZ-ofZ w64 (c .args .a) (c .fits .a), +ℤ-idl) (c .pre)
 
--- src/lib.rt:31:1
 returns : tie.Need-returns
 returns c = rw (toZ-ofZ w64 (c .args .a) (c .fits .a), +ℤ-idl) (toZ-ofZ w64 (negℤ (c .args .a)) (c .pre))
 

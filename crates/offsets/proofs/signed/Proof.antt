@@ -8,20 +8,8 @@ use Rattle.offsets.specs.Bits.{signed-high, signed-high-bits}
 use Rattle.offsets.proofs.signed.Statement.{statement}
 use Rattle.offsets.proofs.signed.Tie as tie
 
-cast-result : tie.Need-cast-result
-cast-result c = search needs
-
-sub-result : tie.Need-sub-result
-sub-result c = search needs
-
-cast-result-2 : tie.Need-cast-result-2
-cast-result-2 c = search needs
-
 sub-result-2 : tie.Need-sub-result-2
 sub-result-2 c = rw (signed-high (c .before .args .bits) (omega arith) (omega arith)) (record { sfits = omega arith })
-
-returns : tie.Need-returns
-returns c = search needs
 
 returns-2 : tie.Need-returns-2
 returns-2 c =
@@ -31,4 +19,4 @@ returns-2 c =
 
 pub signed-spec : {M : Type 1} → statement M
 signed-spec =
-    tie.close (tie.spec cast-result sub-result cast-result-2 sub-result-2 returns returns-2)
+    tie.close (tie.spec (λ c. search needs) (λ c. search needs) (λ c. search needs) sub-result-2 (λ c. search needs) returns-2)

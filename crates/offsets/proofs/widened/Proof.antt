@@ -6,11 +6,9 @@ use Rattle.offsets.proofs.widened.Tie as tie
 use Rattle.offsets.proofs.widened.Reads as reads
 use Rattle.offsets.proofs.widened.Lts as lts
 
--- src/lib.rt:14:5
 cast-result : tie.Need-cast-result
 cast-result c = rw (toZ-ofZ w32 (c .args .z) (c .fits .z)) (fits-wider (c .fits .z))
 
--- src/lib.rt:11:1
 returns : tie.Need-returns
 returns c = rw (toZ-ofZ w32 (c .args .z) (c .fits .z)) (toZ-ofZ w64 (c .args .z) (fits-wider (c .fits .z)))
 

@@ -11,21 +11,6 @@ use Rattle.pairbits.specs.Bits.{withBit}
 use Rattle.pairbits.proofs.set_bit.Statement.{statement}
 use Rattle.pairbits.proofs.set_bit.Tie as tie
 
-slice-read-bytes : tie.Need-slice-read-bytes
-slice-read-bytes c = search needs
-
-cast-bytes : tie.Need-cast-bytes
-cast-bytes c = search needs
-
-shl-bytes : tie.Need-shl-bytes
-shl-bytes c = search needs
-
-slice-write-bytes : tie.Need-slice-write-bytes
-slice-write-bytes c = search needs
-
-same-length : tie.Need-same-length
-same-length c = search needs
-
 returns : tie.Need-returns
 unfolding withBit
 returns c =
@@ -36,4 +21,4 @@ returns c =
 pub set-bit-spec : {M : Type 1} → statement M
 set-bit-spec =
     tie.close
-    (tie.spec slice-read-bytes cast-bytes shl-bytes slice-write-bytes same-length returns)
+    (tie.spec (λ c. search needs) (λ c. search needs) (λ c. search needs) (λ c. search needs) (λ c. search needs) returns)

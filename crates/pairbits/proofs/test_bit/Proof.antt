@@ -8,18 +8,9 @@ use Rattle.pairbits.specs.Bits.{isSet}
 use Rattle.pairbits.proofs.test_bit.Statement.{statement}
 use Rattle.pairbits.proofs.test_bit.Tie as tie
 
-shared-slice-read-result : tie.Need-shared-slice-read-result
-shared-slice-read-result c = search needs
-
-cast-result : tie.Need-cast-result
-cast-result c = search needs
-
-shr-result : tie.Need-shr-result
-shr-result c = search needs
-
 returns : tie.Need-returns
 unfolding isSet bitOf
 returns c = rw (and-mask (getD (c .before .args .bytes .now) (c .before .args .i / 8) 0 / 2 ^ (c .before .args .i % 8)) 1)
 
 pub test-bit-spec : {M : Type 1} → statement M
-test-bit-spec = tie.close (tie.spec shared-slice-read-result cast-result shr-result returns)
+test-bit-spec = tie.close (tie.spec (λ c. search needs) (λ c. search needs) (λ c. search needs) returns)

@@ -7,21 +7,6 @@ use borrow.Author.Needs.{needs}
 use Rattle.reader.proofs.faulty_line.Statement.{statement}
 use Rattle.reader.proofs.faulty_line.Tie as tie
 
-faulty-part-requires : tie.Need-faulty-part-requires
-faulty-part-requires c κs = search needs
-
-add-end : tie.Need-add-end
-add-end c = search needs
-
-sub-result : tie.Need-sub-result
-sub-result c = search needs
-
-part-result-start : tie.Need-part-result-start
-part-result-start c = search needs
-
-part-result-end : tie.Need-part-result-end
-part-result-end c = search needs
-
 returns : tie.Need-returns
 returns c =
     let p = c .before .before .faulty-part in
@@ -31,4 +16,4 @@ returns c =
 pub faulty-line-spec : {M : Type 1} → statement M
 faulty-line-spec =
     tie.close
-    (tie.spec faulty-part-requires add-end sub-result part-result-start part-result-end returns)
+    (tie.spec (λ c κs. search needs) (λ c. search needs) (λ c. search needs) (λ c. search needs) (λ c. search needs) returns)

@@ -5,20 +5,8 @@ use borrow.Author.Needs.{needs}
 use Rattle.reader.proofs.faulty_part.Statement.{statement}
 use Rattle.reader.proofs.faulty_part.Tie as tie
 
-short-requires : tie.Need-short-requires
-short-requires c κs = search needs
-
 returns : tie.Need-returns
 returns c = part-short _ _ _ _ (sym (c .before .short .ensures) ∙ c .if1 .taken)
-
-judge-requires : tie.Need-judge-requires
-judge-requires c κs = search needs
-
-enum-known-part : tie.Need-enum-known-part
-enum-known-part c = search needs
-
-enum-told : tie.Need-enum-told
-enum-told c = search needs
 
 returns-2 : tie.Need-returns-2
 returns-2 c = part-refused _ _ _ _ (sym (c .before .before .before .before .before .short .ensures) ∙ c .before .before .before .before .if1 .left) _ _ (sym (c .before .part .given .1) ∙ c .before .before .before .judge .ensures .answer) (rw (c .before .part .given .1) at (c .before .before .before .judge .ensures .within))
@@ -29,4 +17,4 @@ returns-3 c = part-accepted _ _ _ _ (sym (c .before .before .before .before .sho
 pub faulty-part-spec : {M : Type 1} → statement M
 faulty-part-spec =
     tie.close
-    (tie.spec short-requires returns judge-requires enum-known-part enum-told returns-2 returns-3)
+    (tie.spec (λ c κs. search needs) returns (λ c κs. search needs) (λ c. search needs) (λ c. search needs) returns-2 returns-3)

@@ -10,9 +10,6 @@ use Rattle.reader.proofs.read.Tie as tie
 returns : tie.Need-returns
 returns c = read-short _ _ (sym (c .before .short .ensures) ∙ c .if1 .taken)
 
-load-requires : tie.Need-load-requires
-load-requires c κs = search needs
-
 copy-rows-requires : tie.Need-copy-rows-requires
 copy-rows-requires c κs =
     let l = c .before .before .before .before .before .before .before .before .before .before .before .before .load in
@@ -39,7 +36,7 @@ read-spec =
     (λ c. search needs)
     (λ c. search needs)
     (λ c. search needs)
-    load-requires
+    (λ c κs. search needs)
     (λ c. search needs)
     (λ c. search needs)
     (λ c. search needs)

@@ -30,29 +30,14 @@ memory-passes c = sym (c .enum-told2 .given .1) ∙ c .before .before .check-mem
 enough : (c : tie.After-enum-told2) → EnoughFor (T (c .before .before .before .before .before .before .before .before .before .before)) (M (c .before .before .before .before .before .before .before .before .before .before))
 enough c = room (T (c .before .before .before .before .before .before .before .before .before .before)) (M (c .before .before .before .before .before .before .before .before .before .before)) (sizes-pass (c .before .before .before)) (memory-passes c)
 
-check-sizes-requires : tie.Need-check-sizes-requires
-check-sizes-requires c κs = search needs
-
-enum-known-sizes : tie.Need-enum-known-sizes
-enum-known-sizes c = search needs
-
 returns : tie.Need-returns
 returns c = sizes-refused (T (c .before .before .before .before .before .before .before .before)) (M (c .before .before .before .before .before .before .before .before)) (sym ((c .before .sizes) .given .1) ∙ (c .before .before .before .check-sizes) .ensures)
-
-enum-told : tie.Need-enum-told
-enum-told c = search needs
 
 check-memory-requires : tie.Need-check-memory-requires
 check-memory-requires c κs = sized (c) .few-terms
 
-enum-known-room : tie.Need-enum-known-room
-enum-known-room c = search needs
-
 returns-2 : tie.Need-returns-2
 returns-2 c = memory-refused (T (c .before .before .before .before .before .before .before .before .before .before .before)) (M (c .before .before .before .before .before .before .before .before .before .before .before)) (sizes-pass (c .before .before .before .before)) (sym ((c .before .room) .given .1) ∙ (c .before .before .before .check-memory) .ensures)
-
-enum-told-2 : tie.Need-enum-told-2
-enum-told-2 c = search needs
 
 slice-aggregate-check-records : tie.Need-slice-aggregate-check-records
 slice-aggregate-check-records c = sym (length-take-le _ _ (sized (c .before .before .before .before) .terms-long))
@@ -63,17 +48,8 @@ slice-aggregate-check-records-2 c = sym (length-take-le _ _ (sized (c .before .b
 slice-aggregate-check-records-3 : tie.Need-slice-aggregate-check-records-3
 slice-aggregate-check-records-3 c = sym (length-take-le _ _ (sized (c .before .before .before .before .before .before) .questions-long))
 
-check-records-requires : tie.Need-check-records-requires
-check-records-requires c κs = search needs
-
-enum-known-records : tie.Need-enum-known-records
-enum-known-records c = search needs
-
 returns-3 : tie.Need-returns-3
 returns-3 c = records-refused (T (c .before .before .before .before .before .before .before .before .before .before .before .before .before .before .before .before .before)) (M (c .before .before .before .before .before .before .before .before .before .before .before .before .before .before .before .before .before)) (sizes-pass (c .before .before .before .before .before .before .before .before .before .before)) (memory-passes (c .before .before .before .before .before .before .before)) (sym ((c .before .records) .given .1) ∙ (c .before .before .before .check-records) .ensures)
-
-enum-told-3 : tie.Need-enum-told-3
-enum-told-3 c = search needs
 
 mul-size : tie.Need-mul-size
 mul-size c = omega (arith, square-small ((c .before .before .before .before .before .before .before .before .before .before .before .before .before .before .before .before) .args .n) (sized (c .before .before .before .before .before .before .before .before .before) .few-terms))
@@ -123,21 +99,6 @@ slice-aggregate-solve-accepted-8 c = sym (length-take-le _ _ (enough (c .before 
 solve-accepted-requires : tie.Need-solve-accepted-requires
 solve-accepted-requires c κs = asked (T (c .before .before .before .before .before .before .before .before .before .before .before .before .before .before .before .before .before .before .before .before .before .before .before .before)) (M (c .before .before .before .before .before .before .before .before .before .before .before .before .before .before .before .before .before .before .before .before .before .before .before .before)) (sizes-pass (c .before .before .before .before .before .before .before .before .before .before .before .before .before .before .before .before .before)) (memory-passes (c .before .before .before .before .before .before .before .before .before .before .before .before .before .before)) (sym ((c .before .before .before .before .before .before .before .before .enum-told3) .given .1) ∙ (c .before .before .before .before .before .before .before .before .before .before .check-records) .ensures)
 
-same-length : tie.Need-same-length
-same-length c = search needs
-
-same-length-2 : tie.Need-same-length-2
-same-length-2 c = search needs
-
-same-length-3 : tie.Need-same-length-3
-same-length-3 c = search needs
-
-same-length-4 : tie.Need-same-length-4
-same-length-4 c = search needs
-
-same-length-5 : tie.Need-same-length-5
-same-length-5 c = search needs
-
 returns-4 : tie.Need-returns-4
 returns-4 c = answered (T (c .before .before .before .before .before .before .before .before .before .before .before .before .before .before .before .before .before .before .before .before .before .before .before .before .before .before .before .before .before .before .before .before .before .before)) (M (c .before .before .before .before .before .before .before .before .before .before .before .before .before .before .before .before .before .before .before .before .before .before .before .before .before .before .before .before .before .before .before .before .before .before)) (sizes-pass (c .before .before .before .before .before .before .before .before .before .before .before .before .before .before .before .before .before .before .before .before .before .before .before .before .before .before .before)) (memory-passes (c .before .before .before .before .before .before .before .before .before .before .before .before .before .before .before .before .before .before .before .before .before .before .before .before)) (sym ((c .before .before .before .before .before .before .before .before .before .before .before .before .before .before .before .before .before .before .enum-told3) .given .1) ∙ (c .before .before .before .before .before .before .before .before .before .before .before .before .before .before .before .before .before .before .before .before .check-records) .ensures) _ _ ((c .before .before .before .before .before .before .before .before .before .solve-accepted) .ensures)
 
@@ -145,21 +106,21 @@ pub solve-spec : {M : Type 1} → statement M
 solve-spec =
     tie.close
     (tie.spec
-    check-sizes-requires
-    enum-known-sizes
+    (λ c κs. search needs)
+    (λ c. search needs)
     returns
-    enum-told
+    (λ c. search needs)
     check-memory-requires
-    enum-known-room
+    (λ c. search needs)
     returns-2
-    enum-told-2
+    (λ c. search needs)
     slice-aggregate-check-records
     slice-aggregate-check-records-2
     slice-aggregate-check-records-3
-    check-records-requires
-    enum-known-records
+    (λ c κs. search needs)
+    (λ c. search needs)
     returns-3
-    enum-told-3
+    (λ c. search needs)
     mul-size
     add-size
     slice-aggregate-solve-accepted
@@ -176,9 +137,9 @@ solve-spec =
     slice-relend-prefix-solve-accepted-5
     slice-aggregate-solve-accepted-8
     solve-accepted-requires
-    same-length
-    same-length-2
-    same-length-3
-    same-length-4
-    same-length-5
+    (λ c. search needs)
+    (λ c. search needs)
+    (λ c. search needs)
+    (λ c. search needs)
+    (λ c. search needs)
     returns-4)

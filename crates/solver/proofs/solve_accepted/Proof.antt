@@ -9,32 +9,11 @@ use borrow.Author.Needs.{needs}
 use Rattle.solver.proofs.solve_accepted.Statement.{statement}
 use Rattle.solver.proofs.solve_accepted.Tie as tie
 
-fill-requires : tie.Need-fill-requires
-fill-requires c κs = search needs
-
 is-consistent-requires : tie.Need-is-consistent-requires
 is-consistent-requires c κs = let s = (c .before .before .before .before .before .before .before .before .before .before .before) .pre in ((s .accepted, omega (arith, filled-count 1 ((c .before .before .before .before .before .fill) .ensures) (s .marks))), (s .representatives, s .offsets))
 
-fill-requires-2 : tie.Need-fill-requires-2
-fill-requires-2 c κs = search needs
-
 tell-differences-requires : tie.Need-tell-differences-requires
 tell-differences-requires c κs = let s = (c .before .before .before .before .before .before .before .before .before .before .before .before .before .before .before .before .before .before .before .before .before .before .before .before) .pre in (labelling _ (s .accepted) (s .few-propositions) (ones-kept ((c .before .before .before .before .before .before .before .before .before .before .before .before .before .before .before .before .before .before .fill) .ensures) (s .marks)) ((c .before .before .before .before .before .before .before .before .before .before .before .before .is-consistent) .ensures) ((c .before .before .before .before .before .before .before .before .if1) .taken), record { accepted = s .accepted-questions; few-questions = s .few-questions; pairs-count = s .pairs; answers-count = s .answers })
-
-same-length : tie.Need-same-length
-same-length c = search needs
-
-same-length-2 : tie.Need-same-length-2
-same-length-2 c = search needs
-
-same-length-3 : tie.Need-same-length-3
-same-length-3 c = search needs
-
-same-length-4 : tie.Need-same-length-4
-same-length-4 c = search needs
-
-same-length-5 : tie.Need-same-length-5
-same-length-5 c = search needs
 
 returns : tie.Need-returns
 returns c = let s = (c .before .before .before .before .before .before .before .before .before .before .before .before .before .before .before .before .before .before .before .before .before .before .before .before .before .before .before .before .before) .pre in let a = (c .before .before .before .before .before .before .before .before .before .before .before .before .before .before .before .before .before .before .before .before .before .before .before .before .before .before .before .before .before) .args in let ones = ones-kept ((c .before .before .before .before .before .before .before .before .before .before .before .before .before .before .before .before .before .before .before .before .before .before .before .fill) .ensures) (s .marks) in let d = (c .before .before .before .before .before .before .before .before .before .before .before .before .before .before .before .before .before .is-consistent) .ensures in let yes = (c .before .before .before .before .before .before .before .before .before .before .before .before .before .if1) .taken in
@@ -51,30 +30,6 @@ reset-requires c κs = let s = (c .before .before .before .before .before .befor
     let r = b .1 .1 .1 .0 ∙ (k .1 .1 .1 .0 ∙ s .representatives) in
     (b .1 .1 .1 .1 .0 ∙ (k .1 .1 .1 .1 .0 ∙ s .offsets) ∙ sym r, rw r (s .accepted .few-terms))
 
-fill-requires-3 : tie.Need-fill-requires-3
-fill-requires-3 c κs = search needs
-
-answer-number-requires : tie.Need-answer-number-requires
-answer-number-requires c κs = search needs
-
-fill-requires-4 : tie.Need-fill-requires-4
-fill-requires-4 c κs = search needs
-
-same-length-6 : tie.Need-same-length-6
-same-length-6 c = search needs
-
-same-length-7 : tie.Need-same-length-7
-same-length-7 c = search needs
-
-same-length-8 : tie.Need-same-length-8
-same-length-8 c = search needs
-
-same-length-9 : tie.Need-same-length-9
-same-length-9 c = search needs
-
-same-length-10 : tie.Need-same-length-10
-same-length-10 c = search needs
-
 returns-2 : tie.Need-returns-2
 returns-2 c = let s = (c .before .before .before .before .before .before .before .before .before .before .before .before .before .before .before .before .before .before .before .before .before .before .before .before .before .before .before .before .before .before .before .before .before .before .before .before .before .before .before .before) .pre in let a = (c .before .before .before .before .before .before .before .before .before .before .before .before .before .before .before .before .before .before .before .before .before .before .before .before .before .before .before .before .before .before .before .before .before .before .before .before .before .before .before .before) .args in let k = (c .before .before .before .before .before .before .before .before .before .before .before .before .before .before .before .before .before .before .before .before .before .before .before .before .before .before .before .before .is-consistent) .kept in let b = (c .before .before .before .before .before .before .before .before .before .before .before .before .before .before .before .before .before .before .before .before .blame-marks) .kept in
     solves-contradiction _ (s .accepted) (is-contradictory _ (s .accepted) (ones-kept ((c .before .before .before .before .before .before .before .before .before .before .before .before .before .before .before .before .before .before .before .before .before .before .before .before .before .before .before .before .before .before .before .before .before .before .fill) .ensures) (s .marks)) ((c .before .before .before .before .before .before .before .before .before .before .before .before .before .before .before .before .before .before .before .before .before .before .before .before .before .before .before .before .is-consistent) .ensures) ((c .before .before .before .before .before .before .before .before .before .before .before .before .before .before .before .before .before .before .before .before .before .before .before .before .if1) .left)) (now (a .questions))
@@ -89,24 +44,24 @@ pub solve-accepted-spec : {M : Type 1} → statement M
 solve-accepted-spec =
     tie.close
     (tie.spec
-    fill-requires
+    (λ c κs. search needs)
     is-consistent-requires
-    fill-requires-2
+    (λ c κs. search needs)
     tell-differences-requires
-    same-length
-    same-length-2
-    same-length-3
-    same-length-4
-    same-length-5
+    (λ c. search needs)
+    (λ c. search needs)
+    (λ c. search needs)
+    (λ c. search needs)
+    (λ c. search needs)
     returns
     blame-marks-requires
     reset-requires
-    fill-requires-3
-    answer-number-requires
-    fill-requires-4
-    same-length-6
-    same-length-7
-    same-length-8
-    same-length-9
-    same-length-10
+    (λ c κs. search needs)
+    (λ c κs. search needs)
+    (λ c κs. search needs)
+    (λ c. search needs)
+    (λ c. search needs)
+    (λ c. search needs)
+    (λ c. search needs)
+    (λ c. search needs)
     returns-2)

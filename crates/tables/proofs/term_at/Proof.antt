@@ -5,36 +5,6 @@ use Rattle.tables.specs.Rows.{termOfRow}
 use Rattle.tables.proofs.term_at.Statement.{statement}
 use Rattle.tables.proofs.term_at.Tie as tie
 
-mul-t4 : tie.Need-mul-t4
-mul-t4 c = search needs
-
-index-1-t8 : tie.Need-index-1-t8
-index-1-t8 c = search needs
-
-index-2-t8 : tie.Need-index-2-t8
-index-2-t8 c = search needs
-
-mul-t9 : tie.Need-mul-t9
-mul-t9 c = search needs
-
-index-1-t13 : tie.Need-index-1-t13
-index-1-t13 c = search needs
-
-index-2-t13 : tie.Need-index-2-t13
-index-2-t13 c = search needs
-
-mul-signed : tie.Need-mul-signed
-mul-signed c = search needs
-
-index-1-signed : tie.Need-index-1-signed
-index-1-signed c = search needs
-
-index-2-signed : tie.Need-index-2-signed
-index-2-signed c = search needs
-
-signed-requires : tie.Need-signed-requires
-signed-requires c κs = search needs
-
 returns : tie.Need-returns
 unfolding termOfRow
 returns c = rw (toZ-ofZ w64 (c .signed .result) (sfits-of (c .signed .ok)), c .signed .ensures)
@@ -43,14 +13,14 @@ pub term-at-spec : {M : Type 1} → statement M
 term-at-spec =
     tie.close
     (tie.spec
-    mul-t4
-    index-1-t8
-    index-2-t8
-    mul-t9
-    index-1-t13
-    index-2-t13
-    mul-signed
-    index-1-signed
-    index-2-signed
-    signed-requires
+    (λ c. search needs)
+    (λ c. search needs)
+    (λ c. search needs)
+    (λ c. search needs)
+    (λ c. search needs)
+    (λ c. search needs)
+    (λ c. search needs)
+    (λ c. search needs)
+    (λ c. search needs)
+    (λ c κs. search needs)
     returns)

@@ -5,12 +5,9 @@ use Rattle.tables.specs.Rows.{termRow}
 use Rattle.tables.proofs.term_row.Statement.{statement}
 use Rattle.tables.proofs.term_row.Tie as tie
 
-bits-requires : tie.Need-bits-requires
-bits-requires c κs = search needs
-
 returns : tie.Need-returns
 unfolding termRow
 returns c = rw (c .bits .ensures, toZ-ofZ w64 (c .before .before .args .r .offset) (sfits-of (c .before .struct-told .given .1 .1 .0 .1)))
 
 pub term-row-spec : {M : Type 1} → statement M
-term-row-spec = tie.close (tie.spec bits-requires returns)
+term-row-spec = tie.close (tie.spec (λ c κs. search needs) returns)

@@ -19,20 +19,8 @@ abbrev μ-loop : tie.MeasureT-loop
 loop-holds : tie.Need-loop-holds Inv-loop μ-loop
 loop-holds c = let s = c .before in finding-start (s .pre .0 .0) (s .pre .1)
 
-mul-if1 : tie.Need-mul-if1 Inv-loop μ-loop
-mul-if1 c = omega arith
-
-slice-read-if1 : tie.Need-slice-read-if1 Inv-loop μ-loop
-slice-read-if1 c = omega arith
-
 cast-if1 : tie.Need-cast-if1 Inv-loop μ-loop
 cast-if1 c = let l = c .before in omega (arith, l .loop .inv .links .falls (l .loop .at))
-
-same-length : tie.Need-same-length Inv-loop μ-loop
-same-length c = omega arith
-
-same-length-2 : tie.Need-same-length-2 Inv-loop μ-loop
-same-length-2 c = omega arith
 
 returns : tie.Need-returns Inv-loop μ-loop
 returns c = finding-found (c .before .before .loop .inv) _ (c .if1 .taken) refl refl
@@ -42,12 +30,6 @@ halve-requires c κs =
     let l = c .before .before .before .before in
     let s = c .before .before .before .before .before .before in
     ((l .loop .inv .links, rw (l .loop .inv .long, l .loop .inv .same) (s .pre .0 .1)), (l .loop .inv .below, c .before .before .if1 .left))
-
-mul-sum : tie.Need-mul-sum Inv-loop μ-loop
-mul-sum c = omega arith
-
-slice-copy-out-sum : tie.Need-slice-copy-out-sum Inv-loop μ-loop
-slice-copy-out-sum c = omega arith
 
 sum-requires : tie.Need-sum-requires Inv-loop μ-loop
 sum-requires c κs =
@@ -74,15 +56,15 @@ find-spec =
     Inv-loop
     μ-loop
     loop-holds
-    mul-if1
-    slice-read-if1
+    (λ c. omega arith)
+    (λ c. omega arith)
     cast-if1
-    same-length
-    same-length-2
+    (λ c. omega arith)
+    (λ c. omega arith)
     returns
     halve-requires
-    mul-sum
-    slice-copy-out-sum
+    (λ c. omega arith)
+    (λ c. omega arith)
     sum-requires
     loop-less
     loop-again)

@@ -15,20 +15,8 @@ abbrev μ-loop : tie.MeasureT-loop
 loop-holds : tie.Need-loop-holds Inv-loop μ-loop
 loop-holds c = flattening-start (c .before .pre .0)
 
-mul-if1 : tie.Need-mul-if1 Inv-loop μ-loop
-mul-if1 c = omega arith
-
-slice-read-if1 : tie.Need-slice-read-if1 Inv-loop μ-loop
-slice-read-if1 c = omega arith
-
 cast-if1 : tie.Need-cast-if1 Inv-loop μ-loop
 cast-if1 c = let l = c .before .before in omega (arith, l .loop .inv .links .falls (l .loop .t))
-
-add-t : tie.Need-add-t Inv-loop μ-loop
-add-t c = omega arith
-
-loop-less : tie.Need-loop-less Inv-loop μ-loop
-loop-less c = omega arith
 
 loop-again : tie.Need-loop-again Inv-loop μ-loop
 loop-again c = flattening-skip (c .before .before .before .loop .inv) (omega arith) (c .if1 .taken)
@@ -39,24 +27,12 @@ halve-requires c κs =
     let s = c .before .before .before .before .before .before .before in
     ((l .loop .inv .links, rw (l .loop .inv .long, l .loop .inv .same) (s .pre .1)), (omega arith, c .before .before .if1 .left))
 
-add-t-2 : tie.Need-add-t-2 Inv-loop μ-loop
-add-t-2 c = omega arith
-
-loop-less-2 : tie.Need-loop-less-2 Inv-loop μ-loop
-loop-less-2 c = omega arith
-
 loop-again-2 : tie.Need-loop-again-2 Inv-loop μ-loop
 loop-again-2 c =
     let halved = c .before .before .before in
     let tested = halved .before .before .before in
     let l = tested .before .before .before in
     flattening-next (l .loop .inv) (omega arith) (tested .if1 .left) (halved .halve .ensures)
-
-same-length : tie.Need-same-length Inv-loop μ-loop
-same-length c = omega arith
-
-same-length-2 : tie.Need-same-length-2 Inv-loop μ-loop
-same-length-2 c = omega arith
 
 returns : tie.Need-returns Inv-loop μ-loop
 returns c = let l = c .before in flattened (l .loop .inv) (c .before .before .before .pre .0 .same-length) (omega arith)
@@ -68,16 +44,16 @@ flatten-spec =
     Inv-loop
     μ-loop
     loop-holds
-    mul-if1
-    slice-read-if1
+    (λ c. omega arith)
+    (λ c. omega arith)
     cast-if1
-    add-t
-    loop-less
+    (λ c. omega arith)
+    (λ c. omega arith)
     loop-again
     halve-requires
-    add-t-2
-    loop-less-2
+    (λ c. omega arith)
+    (λ c. omega arith)
     loop-again-2
-    same-length
-    same-length-2
+    (λ c. omega arith)
+    (λ c. omega arith)
     returns)

@@ -12,12 +12,6 @@ use borrow.Author.Needs.{needs}
 use Rattle.unionfind.proofs.halve.Statement.{statement}
 use Rattle.unionfind.proofs.halve.Tie as tie
 
-mul-up : tie.Need-mul-up
-mul-up c = search needs
-
-slice-read-up : tie.Need-slice-read-up
-slice-read-up c = search needs
-
 cast-up : tie.Need-cast-up
 cast-up c = let s = c .before .before in omega (arith, s .pre .0 .0 .falls (s .args .t))
 
@@ -26,12 +20,6 @@ mul-top c = let s = c .before .before in omega (arith, s .pre .0 .0 .falls (s .a
 
 slice-read-top : tie.Need-slice-read-top
 slice-read-top c = let s = c .before .before .before in omega (arith, s .pre .0 .0 .falls (s .args .t))
-
-mul-sum : tie.Need-mul-sum
-mul-sum c = search needs
-
-slice-copy-out-sum : tie.Need-slice-copy-out-sum
-slice-copy-out-sum c = search needs
 
 mul-sum-2 : tie.Need-mul-sum-2
 mul-sum-2 c = let s = c .before .before .before .before in omega (arith, s .pre .0 .0 .falls (s .args .t))
@@ -45,26 +33,8 @@ sum-requires c κs =
     rw (toZ-ofZ w64 _ (sfits-of (c .before .sum-arg .given)), toZ-ofZ w64 _ (sfits-of (c .sum-arg2 .given)))
     (within-fits (omega arith) (halved-within (s .pre .0 .0) (s .args .t) (s .pre .1 .0) (s .pre .0 .1)))
 
-mul-t16 : tie.Need-mul-t16
-mul-t16 c = search needs
-
-slice-set-from-offsets : tie.Need-slice-set-from-offsets
-slice-set-from-offsets c = search needs
-
-mul-parents : tie.Need-mul-parents
-mul-parents c = search needs
-
-slice-write-parents : tie.Need-slice-write-parents
-slice-write-parents c = search needs
-
 cast-result : tie.Need-cast-result
 cast-result c = let s = c .before .before .before .before .before .before in omega (arith, s .pre .0 .0 .falls (s .args .t), s .pre .0 .0 .falls (getD (s .args .parents .now) (s .args .t) 0))
-
-same-length : tie.Need-same-length
-same-length c = search needs
-
-same-length-2 : tie.Need-same-length-2
-same-length-2 c = search needs
 
 returns : tie.Need-returns
 returns c =
@@ -76,21 +46,21 @@ pub halve-spec : {M : Type 1} → statement M
 halve-spec =
     tie.close
     (tie.spec
-    mul-up
-    slice-read-up
+    (λ c. search needs)
+    (λ c. search needs)
     cast-up
     mul-top
     slice-read-top
-    mul-sum
-    slice-copy-out-sum
+    (λ c. search needs)
+    (λ c. search needs)
     mul-sum-2
     slice-copy-out-sum-2
     sum-requires
-    mul-t16
-    slice-set-from-offsets
-    mul-parents
-    slice-write-parents
+    (λ c. search needs)
+    (λ c. search needs)
+    (λ c. search needs)
+    (λ c. search needs)
     cast-result
-    same-length
-    same-length-2
+    (λ c. search needs)
+    (λ c. search needs)
     returns)

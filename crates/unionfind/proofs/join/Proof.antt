@@ -11,9 +11,6 @@ use borrow.Author.Needs.{needs}
 use Rattle.unionfind.proofs.join.Statement.{statement}
 use Rattle.unionfind.proofs.join.Tie as tie
 
-find-requires : tie.Need-find-requires
-find-requires c κs = search needs
-
 find-requires-2 : tie.Need-find-requires-2
 find-requires-2 c κs =
     let s = c .before .before .before .before .before .before .before .before .before in
@@ -49,12 +46,6 @@ join-roots-requires c κs =
       (pair-root labels, (pair-root (swapped labels), rw e (within-difference (within-sum (s .pre .1 .1 .1) right) left))),
     )
 
-same-length : tie.Need-same-length
-same-length c = search needs
-
-same-length-2 : tie.Need-same-length-2
-same-length-2 c = search needs
-
 returns : tie.Need-returns
 returns c =
     let second = c .before .before .before .before .before .before .before .before .before .before .before .before in
@@ -74,10 +65,10 @@ pub join-spec : {M : Type 1} → statement M
 join-spec =
     tie.close
     (tie.spec
-    find-requires
+    (λ c κs. search needs)
     find-requires-2
     distance-requires
     join-roots-requires
-    same-length
-    same-length-2
+    (λ c. search needs)
+    (λ c. search needs)
     returns)

@@ -12,9 +12,6 @@ use borrow.Author.Needs.{needs}
 use Rattle.unionfind.proofs.join_roots.Statement.{statement}
 use Rattle.unionfind.proofs.join_roots.Tie as tie
 
-is-same-requires : tie.Need-is-same-requires
-is-same-requires c κs = search needs
-
 returns : tie.Need-returns
 returns c =
     let s = c .before .before .before .before in
@@ -26,15 +23,6 @@ returns-2 c =
     let s = c .before .before .before .before in
     let e = rw (toZ-ofZ w64 (s .args .d) (s .fits .d)) at (c .before .is-same .ensures) in
     roots-clashed (s .pre .0 .0) (s .args .d) (s .pre .1 .0) (s .pre .1 .1 .0) (c .before .before .if1 .taken) (eqℤ-false _ _ (sym e ∙ c .if2 .left))
-
-link-requires : tie.Need-link-requires
-link-requires c κs = search needs
-
-same-length : tie.Need-same-length
-same-length c = search needs
-
-same-length-2 : tie.Need-same-length-2
-same-length-2 c = search needs
 
 returns-3 : tie.Need-returns-3
 returns-3 c =
@@ -52,12 +40,6 @@ link-requires-2 c κs =
     let s = c .before .before .before .before .before .before in
     ((s .pre .0 .0, (s .pre .0 .1 .1, omega arith)), (s .pre .1 .1 .0, s .pre .1 .0))
 
-same-length-3 : tie.Need-same-length-3
-same-length-3 c = search needs
-
-same-length-4 : tie.Need-same-length-4
-same-length-4 c = search needs
-
 returns-4 : tie.Need-returns-4
 returns-4 c =
     let s = c .before .before .before .before .before .before .before .before .before .before in
@@ -70,15 +52,15 @@ pub join-roots-spec : {M : Type 1} → statement M
 join-roots-spec =
     tie.close
     (tie.spec
-    is-same-requires
+    (λ c κs. search needs)
     returns
     returns-2
-    link-requires
-    same-length
-    same-length-2
+    (λ c κs. search needs)
+    (λ c. search needs)
+    (λ c. search needs)
     returns-3
     opposite-requires
     link-requires-2
-    same-length-3
-    same-length-4
+    (λ c. search needs)
+    (λ c. search needs)
     returns-4)

@@ -4,21 +4,9 @@ use borrow.Author.Needs.{needs}
 use Rattle.writer.proofs.put_answer.Statement.{statement}
 use Rattle.writer.proofs.put_answer.Tie as tie
 
-byte-of-requires : tie.Need-byte-of-requires
-byte-of-requires c κs = search needs
-
-byte-of-requires-2 : tie.Need-byte-of-requires-2
-byte-of-requires-2 c κs = search needs
-
-slice-aggregate-put-line : tie.Need-slice-aggregate-put-line
-slice-aggregate-put-line c = search needs
-
 put-line-requires : tie.Need-put-line-requires
 unfolding bytes
 put-line-requires c κs = rw (c .before .before .before .byte-of .ensures, c .before .before .byte-of2 .ensures) (c .before .before .before .before .before .pre)
-
-same-length : tie.Need-same-length
-same-length c = search needs
 
 returns : tie.Need-returns
 unfolding bytes
@@ -28,9 +16,9 @@ pub put-answer-spec : {M : Type 1} → statement M
 put-answer-spec =
     tie.close
     (tie.spec
-    byte-of-requires
-    byte-of-requires-2
-    slice-aggregate-put-line
+    (λ c κs. search needs)
+    (λ c κs. search needs)
+    (λ c. search needs)
     put-line-requires
-    same-length
+    (λ c. search needs)
     returns)

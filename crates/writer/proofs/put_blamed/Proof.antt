@@ -9,22 +9,10 @@ use Rattle.writer.proofs.put_blamed.Tie as tie
 returns : tie.Need-returns
 returns c = rw (blame-unmarked (c .before .before .args .proposition .0) (c .before .before .args .mark) (c .if1 .taken)) (appended-none _ _)
 
-byte-of-requires : tie.Need-byte-of-requires
-byte-of-requires c κs = search needs
-
-byte-of-requires-2 : tie.Need-byte-of-requires-2
-byte-of-requires-2 c κs = search needs
-
-slice-aggregate-put-line : tie.Need-slice-aggregate-put-line
-slice-aggregate-put-line c = search needs
-
 put-line-requires : tie.Need-put-line-requires
 unfolding bytes
 put-line-requires c κs = let s = c .before .before .before .before .before .before in
     rw (c .before .before .before .byte-of .ensures, c .before .before .byte-of2 .ensures) (rw (blame-marked (s .args .proposition .0) (s .args .mark) (c .before .before .before .before .if1 .left)) at (s .pre))
-
-same-length : tie.Need-same-length
-same-length c = search needs
 
 returns-2 : tie.Need-returns-2
 unfolding bytes
@@ -36,9 +24,9 @@ put-blamed-spec =
     tie.close
     (tie.spec
     returns
-    byte-of-requires
-    byte-of-requires-2
-    slice-aggregate-put-line
+    (λ c κs. search needs)
+    (λ c κs. search needs)
+    (λ c. search needs)
     put-line-requires
-    same-length
+    (λ c. search needs)
     returns-2)

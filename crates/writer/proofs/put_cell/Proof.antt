@@ -9,14 +9,8 @@ put-blamed-requires c κs = rw (c .before .if1 .taken) at (c .before .before .be
 put-answer-requires : tie.Need-put-answer-requires
 put-answer-requires c κs = rw (c .before .if1 .left) at (c .before .before .before .pre)
 
-same-length : tie.Need-same-length
-same-length c = search needs
-
 returns : tie.Need-returns
 returns c = rw (c .before .before .before .before .if1 .taken) (c .before .before .put-blamed .ensures)
-
-same-length-2 : tie.Need-same-length-2
-same-length-2 c = search needs
 
 returns-2 : tie.Need-returns-2
 returns-2 c = rw (c .before .before .before .before .if1 .left) (c .before .before .put-answer .ensures)
@@ -24,4 +18,4 @@ returns-2 c = rw (c .before .before .before .before .if1 .left) (c .before .befo
 pub put-cell-spec : {M : Type 1} → statement M
 put-cell-spec =
     tie.close
-    (tie.spec put-blamed-requires put-answer-requires same-length returns same-length-2 returns-2)
+    (tie.spec put-blamed-requires put-answer-requires (λ c. search needs) returns (λ c. search needs) returns-2)

@@ -18,9 +18,6 @@ put-cells-requires-2 : tie.Need-put-cells-requires-2
 put-cells-requires-2 c κs = let s = c .before .before .before .before .before .before .before .before .before .before .before .before in
     third-fits (s .args .out .now) (verdictFrame Contradiction) (blameFrames (s .args .marks .now)) (answerFrames (s .args .answers .now)) (s .pre) _ _ (c .before .before .before .before .before .before .before .put-contradiction .ensures) _ _ (c .before .before .before .put-cells .ensures)
 
-same-length : tie.Need-same-length
-same-length c = search needs
-
 returns : tie.Need-returns
 returns c = let s = c .before .before .before .before .before .before .before .before .before .before .before .before .before .before .before in
     all-written (s .args .out .now) (verdictFrame Contradiction) (blameFrames (s .args .marks .now)) (answerFrames (s .args .answers .now)) (s .pre) _ _ (c .before .before .before .before .before .before .before .before .before .before .put-contradiction .ensures) _ _ (c .before .before .before .before .before .before .put-cells .ensures) _ _ (c .before .before .put-cells2 .ensures)
@@ -32,5 +29,5 @@ put-contradictory-set-spec =
     put-contradiction-requires
     put-cells-requires
     put-cells-requires-2
-    same-length
+    (λ c. search needs)
     returns)

@@ -29,9 +29,6 @@ digit-of-requires c κs = omega (arith, c .shared-slice-known2 .given (c .before
 slice-write-out : tie.Need-slice-write-out Inv-loop μ-loop
 slice-write-out c = omega (arith, remaining-fits _ _ _ _ _ _ (c .before .before .before .before .before .before .pre) (c .before .before .before .loop .inv .1), length-line-from (c .before .before .before .before .before .before .args .frame .now) (c .before .before .before .loop .k))
 
-digit-of-requires-2 : tie.Need-digit-of-requires-2 Inv-loop μ-loop
-digit-of-requires-2 c κs = omega arith
-
 add-out : tie.Need-add-out Inv-loop μ-loop
 add-out c = omega (arith, remaining-fits _ _ _ _ _ _ (c .before .before .before .before .before .before .before .pre) (c .before .before .before .before .loop .inv .1), length-line-from (c .before .before .before .before .before .before .before .args .frame .now) (c .before .before .before .before .loop .k), c .before .before .before .before .before .before .before .good .0 .1, c .before .before .before .loop-test .taken)
 
@@ -80,7 +77,7 @@ put-line-spec =
     shared-slice-read-b
     digit-of-requires
     slice-write-out
-    digit-of-requires-2
+    (λ c κs. omega arith)
     add-out
     slice-write-out-2
     add-next

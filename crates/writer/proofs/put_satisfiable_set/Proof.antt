@@ -18,9 +18,6 @@ put-cells-requires : tie.Need-put-cells-requires
 put-cells-requires c κs = let s = c .before .before .before .before .before .before .before .before .before .before .before .before in
     third-fits (s .args .out .now) (verdictFrame Satisfiable) (labelFrames 0 (s .args .representatives .now) (s .args .offsets .now)) (answerFrames (s .args .answers .now)) (s .pre .1) _ _ (c .before .before .before .before .before .before .before .put-satisfiable .ensures) _ _ (c .before .before .before .put-labels .ensures)
 
-same-length : tie.Need-same-length
-same-length c = search needs
-
 returns : tie.Need-returns
 returns c = let s = c .before .before .before .before .before .before .before .before .before .before .before .before .before .before .before in
     all-written (s .args .out .now) (verdictFrame Satisfiable) (labelFrames 0 (s .args .representatives .now) (s .args .offsets .now)) (answerFrames (s .args .answers .now)) (s .pre .1) _ _ (c .before .before .before .before .before .before .before .before .before .before .put-satisfiable .ensures) _ _ (c .before .before .before .before .before .before .put-labels .ensures) _ _ (c .before .before .put-cells .ensures)
@@ -28,4 +25,4 @@ returns c = let s = c .before .before .before .before .before .before .before .b
 pub put-satisfiable-set-spec : {M : Type 1} → statement M
 put-satisfiable-set-spec =
     tie.close
-    (tie.spec put-satisfiable-requires put-labels-requires put-cells-requires same-length returns)
+    (tie.spec put-satisfiable-requires put-labels-requires put-cells-requires (λ c. search needs) returns)

@@ -14,12 +14,6 @@ proposition-below c = rw (c .before .before .frame2 .given .1) at (c .before .be
 question-below : (c : tie.After-question-row) → c .before .before .before .before .args .counts .questions < 512
 question-below c = rw (c .before .before .frame3 .given .1) at (c .before .before .before .before .pre .0)
 
-enum-known-frame : tie.Need-enum-known-frame
-enum-known-frame c = search needs
-
-term-row-requires : tie.Need-term-row-requires
-term-row-requires c κs = search needs
-
 mul-t15 : tie.Need-mul-t15
 mul-t15 c = omega (arith, term-below c)
 
@@ -28,12 +22,6 @@ slice-set-from-terms c = omega (arith, term-below c)
 
 add-next : tie.Need-add-next
 add-next c = omega (arith, term-below c)
-
-enum-known-frame-2 : tie.Need-enum-known-frame-2
-enum-known-frame-2 c = search needs
-
-proposition-row-requires : tie.Need-proposition-row-requires
-proposition-row-requires c κs = search needs
 
 mul-t18 : tie.Need-mul-t18
 mul-t18 c = omega (arith, proposition-below c)
@@ -44,12 +32,6 @@ slice-set-from-propositions c = omega (arith, proposition-below c)
 add-next-2 : tie.Need-add-next-2
 add-next-2 c = omega (arith, proposition-below c)
 
-enum-known-frame-3 : tie.Need-enum-known-frame-3
-enum-known-frame-3 c = search needs
-
-question-row-requires : tie.Need-question-row-requires
-question-row-requires c κs = search needs
-
 mul-t21 : tie.Need-mul-t21
 mul-t21 c = omega (arith, question-below c)
 
@@ -59,23 +41,11 @@ slice-set-from-questions c = omega (arith, question-below c)
 add-next-3 : tie.Need-add-next-3
 add-next-3 c = omega (arith, question-below c)
 
-enum-told : tie.Need-enum-told
-enum-told c = search needs
-
-same-length : tie.Need-same-length
-same-length c = search needs
-
 returns : tie.Need-returns
 returns c = let e = c .before .before .frame .given .1 in record { counts = rw e; cells = rw (e, c .term-row .ensures) }
 
-same-length-2 : tie.Need-same-length-2
-same-length-2 c = search needs
-
 returns-2 : tie.Need-returns-2
 returns-2 c = let e = c .before .before .frame2 .given .1 in record { counts = rw e; cells = rw (e, c .proposition-row .ensures) }
-
-same-length-3 : tie.Need-same-length-3
-same-length-3 c = search needs
 
 returns-3 : tie.Need-returns-3
 returns-3 c = let e = c .before .before .frame3 .given .1 in record { counts = rw e; cells = rw (e, c .question-row .ensures) }
@@ -87,26 +57,26 @@ pub store-spec : {M : Type 1} → statement M
 store-spec =
     tie.close
     (tie.spec
-    enum-known-frame
-    term-row-requires
+    (λ c. search needs)
+    (λ c κs. search needs)
     mul-t15
     slice-set-from-terms
     add-next
-    enum-known-frame-2
-    proposition-row-requires
+    (λ c. search needs)
+    (λ c κs. search needs)
     mul-t18
     slice-set-from-propositions
     add-next-2
-    enum-known-frame-3
-    question-row-requires
+    (λ c. search needs)
+    (λ c κs. search needs)
     mul-t21
     slice-set-from-questions
     add-next-3
-    enum-told
-    same-length
+    (λ c. search needs)
+    (λ c. search needs)
     returns
-    same-length-2
+    (λ c. search needs)
     returns-2
-    same-length-3
+    (λ c. search needs)
     returns-3
     returns-4)

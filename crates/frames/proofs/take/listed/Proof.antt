@@ -25,22 +25,10 @@ tested c = rw (← c .before .term-at .ensures) (c .same-atom .ensures)
 loop-holds : tie.Need-loop-holds Inv-loop μ-loop
 loop-holds c = (omega arith, below-none _)
 
-term-at-requires : tie.Need-term-at-requires Inv-loop μ-loop
-term-at-requires c κs = omega arith
-
-same-atom-requires : tie.Need-same-atom-requires Inv-loop μ-loop
-same-atom-requires c κs = search needs
-
 returns : tie.Need-returns Inv-loop μ-loop
 returns c rs e L =
     let l = c .before .before .before .before .loop in
     sym (listed-here _ rs L (c .before .before .before .before .before .args .t) (l .k) (omega arith) (sym (tested (c .before)) ∙ c .if1 .taken))
-
-add-k : tie.Need-add-k Inv-loop μ-loop
-add-k c = omega arith
-
-loop-less : tie.Need-loop-less Inv-loop μ-loop
-loop-less c = omega arith
 
 loop-again : tie.Need-loop-again Inv-loop μ-loop
 loop-again c =
@@ -57,10 +45,10 @@ listed-spec =
     Inv-loop
     μ-loop
     loop-holds
-    term-at-requires
-    same-atom-requires
+    (λ c κs. omega arith)
+    (λ c κs. search needs)
     returns
-    add-k
-    loop-less
+    (λ c. omega arith)
+    (λ c. omega arith)
     loop-again
     returns-2)

@@ -4,27 +4,6 @@ use borrow.Author.Needs.{needs}
 use Rattle.frames.proofs.take.take_frame.Statement.{statement}
 use Rattle.frames.proofs.take.take_frame.Tie as tie
 
-enum-known-frame : tie.Need-enum-known-frame
-enum-known-frame c = search needs
-
-take-term-requires : tie.Need-take-term-requires
-take-term-requires c κs = search needs
-
-enum-known-frame-2 : tie.Need-enum-known-frame-2
-enum-known-frame-2 c = search needs
-
-take-proposition-requires : tie.Need-take-proposition-requires
-take-proposition-requires c κs = search needs
-
-enum-known-frame-3 : tie.Need-enum-known-frame-3
-enum-known-frame-3 c = search needs
-
-take-question-requires : tie.Need-take-question-requires
-take-question-requires c κs = search needs
-
-enum-told : tie.Need-enum-told
-enum-told c = search needs
-
 returns : tie.Need-returns
 returns c = let t = c .take-term .ensures in rw (c .before .before .frame .given .1) t
 
@@ -41,13 +20,13 @@ pub take-frame-spec : {M : Type 1} → statement M
 take-frame-spec =
     tie.close
     (tie.spec
-    enum-known-frame
-    take-term-requires
-    enum-known-frame-2
-    take-proposition-requires
-    enum-known-frame-3
-    take-question-requires
-    enum-told
+    (λ c. search needs)
+    (λ c κs. search needs)
+    (λ c. search needs)
+    (λ c κs. search needs)
+    (λ c. search needs)
+    (λ c κs. search needs)
+    (λ c. search needs)
     returns
     returns-2
     returns-3

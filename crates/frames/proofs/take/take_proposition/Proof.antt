@@ -27,12 +27,6 @@ returns-2 c =
           simp (empty (R .questions) (omega arith), le-leb 512 (length (R .propositions)) (omega arith));
     }
 
-is-unlisted-requires : tie.Need-is-unlisted-requires
-is-unlisted-requires c κs = search needs
-
-is-unlisted-requires-2 : tie.Need-is-unlisted-requires-2
-is-unlisted-requires-2 c κs = search needs
-
 returns-3 : tie.Need-returns-3
 unfolding frameFault propositionNameFault
 returns-3 c =
@@ -56,4 +50,4 @@ returns-4 c =
 pub take-proposition-spec : {M : Type 1} → statement M
 take-proposition-spec =
     tie.close
-    (tie.spec returns returns-2 is-unlisted-requires is-unlisted-requires-2 returns-3 returns-4)
+    (tie.spec returns returns-2 (λ c κs. search needs) (λ c κs. search needs) returns-3 returns-4)

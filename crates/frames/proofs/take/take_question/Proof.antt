@@ -17,12 +17,6 @@ returns c =
           simp (le-leb 512 (length (R .questions)) (omega arith));
     }
 
-is-unlisted-requires : tie.Need-is-unlisted-requires
-is-unlisted-requires c κs = search needs
-
-is-unlisted-requires-2 : tie.Need-is-unlisted-requires-2
-is-unlisted-requires-2 c κs = search needs
-
 returns-2 : tie.Need-returns-2
 unfolding frameFault questionNameFault
 returns-2 c =
@@ -45,4 +39,4 @@ returns-3 c =
 
 pub take-question-spec : {M : Type 1} → statement M
 take-question-spec =
-    tie.close (tie.spec returns is-unlisted-requires is-unlisted-requires-2 returns-2 returns-3)
+    tie.close (tie.spec returns (λ c κs. search needs) (λ c κs. search needs) returns-2 returns-3)

@@ -36,9 +36,6 @@ returns-3 c =
           simp (empty (R .propositions) (omega arith), empty (R .questions) (omega arith), le-leb 512 (length (R .terms)) (omega arith));
     }
 
-is-unlisted-requires : tie.Need-is-unlisted-requires
-is-unlisted-requires c κs = search needs
-
 returns-4 : tie.Need-returns-4
 returns-4 c =
     record {
@@ -54,9 +51,6 @@ returns-5 c =
       fault = λ R n L.
           rw (inner-listed R (c .before .before .before .before .before .before .before .before .before .before .args .t) (omega arith) (omega arith) (omega arith) (c .before .before .if4 .taken) (rw (← n .terms) (sym (c .before .is-unlisted .ensures) ∙ c .if5 .left)));
     }
-
-listed-requires : tie.Need-listed-requires
-listed-requires c κs = search needs
 
 returns-6 : tie.Need-returns-6
 returns-6 c =
@@ -81,9 +75,9 @@ take-term-spec =
     returns
     returns-2
     returns-3
-    is-unlisted-requires
+    (λ c κs. search needs)
     returns-4
     returns-5
-    listed-requires
+    (λ c κs. search needs)
     returns-6
     returns-7)

@@ -9,15 +9,9 @@ use Rattle.lines.proofs.line.blocks_frame.Tie as tie
 returns : tie.Need-returns
 returns c = sym (framed-wrong blocks (c .before .before .args .fields .now) (c .if1 .taken))
 
-word-requires : tie.Need-word-requires
-word-requires c κs = search needs
-
-word-requires-2 : tie.Need-word-requires-2
-word-requires-2 c κs = search needs
-
 returns-2 : tie.Need-returns-2
 returns-2 c =
     rw (framed-right blocks (c .before .before .before .before .args .fields .now) (c .before .before .if1 .left), c .word2 .ensures, c .before .word .ensures)
 
 pub blocks-frame-spec : {M : Type 1} → statement M
-blocks-frame-spec = tie.close (tie.spec returns word-requires word-requires-2 returns-2)
+blocks-frame-spec = tie.close (tie.spec returns (λ c κs. search needs) (λ c κs. search needs) returns-2)

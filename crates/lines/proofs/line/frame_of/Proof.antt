@@ -10,42 +10,6 @@ use Rattle.lines.proofs.line.frame_of.Tie as tie
 returns : tie.Need-returns
 returns c = rw (empty-list (c .before .before .args .bytes .now) (c .if1 .taken))
 
-shared-slice-read-wide : tie.Need-shared-slice-read-wide
-shared-slice-read-wide c = search needs
-
-wide-requires : tie.Need-wide-requires
-wide-requires c κs = search needs
-
-sub-fields : tie.Need-sub-fields
-sub-fields c = search needs
-
-part-fields-start : tie.Need-part-fields-start
-part-fields-start c = search needs
-
-part-fields-end : tie.Need-part-fields-end
-part-fields-end c = search needs
-
-atom-frame-requires : tie.Need-atom-frame-requires
-atom-frame-requires c κs = search needs
-
-atom-frame-requires-2 : tie.Need-atom-frame-requires-2
-atom-frame-requires-2 c κs = search needs
-
-dereference-frame-requires : tie.Need-dereference-frame-requires
-dereference-frame-requires c κs = search needs
-
-relation-frame-requires : tie.Need-relation-frame-requires
-relation-frame-requires c κs = search needs
-
-relation-frame-requires-2 : tie.Need-relation-frame-requires-2
-relation-frame-requires-2 c κs = search needs
-
-blocks-frame-requires : tie.Need-blocks-frame-requires
-blocks-frame-requires c κs = search needs
-
-question-frame-requires : tie.Need-question-frame-requires
-question-frame-requires c κs = search needs
-
 returns-2 : tie.Need-returns-2
 unfolding frameBy layouts
 returns-2 c = c .atom-frame .ensures ∙ sym (frame-fields (c .before .before .before .before .before .before .before .args .bytes .now) 0x01 (omega arith) (sym (c .before .before .before .wide .ensures) ∙ c .before .match .keys1))
@@ -87,18 +51,18 @@ frame-of-spec =
     tie.close
     (tie.spec
     returns
-    shared-slice-read-wide
-    wide-requires
-    sub-fields
-    part-fields-start
-    part-fields-end
-    atom-frame-requires
-    atom-frame-requires-2
-    dereference-frame-requires
-    relation-frame-requires
-    relation-frame-requires-2
-    blocks-frame-requires
-    question-frame-requires
+    (λ c. search needs)
+    (λ c κs. search needs)
+    (λ c. search needs)
+    (λ c. search needs)
+    (λ c. search needs)
+    (λ c κs. search needs)
+    (λ c κs. search needs)
+    (λ c κs. search needs)
+    (λ c κs. search needs)
+    (λ c κs. search needs)
+    (λ c κs. search needs)
+    (λ c κs. search needs)
     returns-2
     returns-3
     returns-4

@@ -11,23 +11,11 @@ use Rattle.lines.proofs.line.judge_line.Tie as tie
 returns : tie.Need-returns
 returns c = sym (line-long (c .before .before .args .line .now) (omega arith))
 
-slice-aggregate-decode : tie.Need-slice-aggregate-decode
-slice-aggregate-decode c = search needs
-
-decode-requires : tie.Need-decode-requires
-decode-requires c κs = search needs
-
 returns-2 : tie.Need-returns-2
 returns-2 c = let d = c .before .before .decode in rw (d .ensures, not-true (d .result) (c .if2 .taken))
 
-array-share-prefix-bytes : tie.Need-array-share-prefix-bytes
-array-share-prefix-bytes c = search needs
-
 slice-aggregate-frame-of : tie.Need-slice-aggregate-frame-of
 slice-aggregate-frame-of c = sym (length-take-le _ _ (omega arith))
-
-frame-of-requires : tie.Need-frame-of-requires
-frame-of-requires c κs = search needs
 
 returns-3 : tie.Need-returns-3
 returns-3 c = let d = c .before .before .before .before .decode in rw (d .ensures, not-false (d .result) (c .before .before .if2 .left)) (c .frame-of .ensures)
@@ -37,10 +25,10 @@ judge-line-spec =
     tie.close
     (tie.spec
     returns
-    slice-aggregate-decode
-    decode-requires
+    (λ c. search needs)
+    (λ c κs. search needs)
     returns-2
-    array-share-prefix-bytes
+    (λ c. search needs)
     slice-aggregate-frame-of
-    frame-of-requires
+    (λ c κs. search needs)
     returns-3)

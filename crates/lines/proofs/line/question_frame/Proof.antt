@@ -12,19 +12,10 @@ use Rattle.lines.proofs.line.question_frame.Tie as tie
 returns : tie.Need-returns
 returns c = sym (framed-wrong asked (c .before .before .args .fields .now) (c .if1 .taken))
 
-word-requires : tie.Need-word-requires
-word-requires c κs = search needs
-
-offset-field-requires : tie.Need-offset-field-requires
-offset-field-requires c κs = search needs
-
-word-requires-2 : tie.Need-word-requires-2
-word-requires-2 c κs = search needs
-
 returns-2 : tie.Need-returns-2
 returns-2 c =
     rw (framed-right asked (c .before .before .before .before .before .args .fields .now) (c .before .before .before .if1 .left), c .word2 .ensures, toZ-ofZ w64 (c .before .offset-field .result) (sfits-of (c .before .offset-field .ok)), c .before .offset-field .ensures, c .before .before .word .ensures)
 
 pub question-frame-spec : {M : Type 1} → statement M
 question-frame-spec =
-    tie.close (tie.spec returns word-requires offset-field-requires word-requires-2 returns-2)
+    tie.close (tie.spec returns (λ c κs. search needs) (λ c κs. search needs) (λ c κs. search needs) returns-2)

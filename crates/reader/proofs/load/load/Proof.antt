@@ -61,9 +61,6 @@ part-line-end c = rw (c .line-end .ensures) (end-within _ (c .before .before .lo
 take-line-requires : tie.Need-take-line-requires Inv-loop μ-loop
 take-line-requires c κs = room-sized (c .before .before .before .before .before .before .before .before .pre) (c .before .before .before .before .before .before .loop .inv .1)
 
-enum-known-refusal : tie.Need-enum-known-refusal Inv-loop μ-loop
-enum-known-refusal c = search needs
-
 sub-size : tie.Need-sub-size Inv-loop μ-loop
 sub-size c =
     let l = c .before .before .before .before .before .before .before .before .before .before .before .before .before .loop in
@@ -84,9 +81,6 @@ returns c =
     let l = k .before .before .before .before .before .before .before .loop in
     rw (k .before .before .before .before .before .line-end .ensures)
     (progress-refused _ _ _ _ (l .start) (l .place) (l .inv .0) (k .before .before .before .before .before .before .loop-test .taken) _ _ (rw (c .before .refusal .given .1) at (stepped k)))
-
-enum-known-more : tie.Need-enum-known-more Inv-loop μ-loop
-enum-known-more c = search needs
 
 add-start : tie.Need-add-start Inv-loop μ-loop
 add-start c =
@@ -137,13 +131,13 @@ load-spec =
     part-line-start
     part-line-end
     take-line-requires
-    enum-known-refusal
+    (λ c. search needs)
     sub-size
     same-length
     same-length-2
     same-length-3
     returns
-    enum-known-more
+    (λ c. search needs)
     add-start
     add-place
     loop-less

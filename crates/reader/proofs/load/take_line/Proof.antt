@@ -11,38 +11,14 @@ use Rattle.reader.proofs.load.take_line.Tie as tie
 returns : tie.Need-returns
 returns c R C room n e = rw (not-true (c .before .before .args .ended) (c .if1 .taken)) (step-unended R _)
 
-judge-line-requires : tie.Need-judge-line-requires
-judge-line-requires c κs = search needs
-
-take-frame-requires : tie.Need-take-frame-requires
-take-frame-requires c κs = search needs
-
-enum-known-refusal : tie.Need-enum-known-refusal
-enum-known-refusal c = search needs
-
-enum-told : tie.Need-enum-told
-enum-told c = search needs
-
 store-requires : tie.Need-store-requires
 store-requires c κs = (rw (c .before .before .before .enum-told .given .1) at (c .before .before .before .before .before .take-frame .ensures .room), c .before .before .before .before .before .before .before .before .before .before .pre)
-
-same-length : tie.Need-same-length
-same-length c = search needs
 
 returns-2 : tie.Need-returns-2
 returns-2 c R C room n e =
     let frame = c .before .before .before .before .before .judge-line in
     let t = c .before .before .before .take-frame .ensures .fault R n (listing-rows-with R C e) in
     rw (not-false (c .before .before .before .before .before .before .before .before .args .ended) (c .before .before .before .before .before .before .if1 .left)) (step-refused R _ (frame .result) (frame .ensures) _ (sym (c .before .refusal .given .1) ∙ t))
-
-same-length-2 : tie.Need-same-length-2
-same-length-2 c = search needs
-
-same-length-3 : tie.Need-same-length-3
-same-length-3 c = search needs
-
-same-length-4 : tie.Need-same-length-4
-same-length-4 c = search needs
 
 returns-3 : tie.Need-returns-3
 returns-3 c R C room n e =
@@ -62,14 +38,14 @@ take-line-spec =
     tie.close
     (tie.spec
     returns
-    judge-line-requires
-    take-frame-requires
-    enum-known-refusal
-    enum-told
+    (λ c κs. search needs)
+    (λ c κs. search needs)
+    (λ c. search needs)
+    (λ c. search needs)
     store-requires
-    same-length
+    (λ c. search needs)
     returns-2
-    same-length-2
-    same-length-3
-    same-length-4
+    (λ c. search needs)
+    (λ c. search needs)
+    (λ c. search needs)
     returns-3)
