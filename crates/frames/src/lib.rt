@@ -1,4 +1,6 @@
-// One frame into the tables: its refusals after the records read so far, and its record stored. Public for the crate `reader`.
+// One frame into the tables: its refusals after the records read so far, and its record stored; and tables of records copied. Public for
+// the crate `reader`.
+pub mod copy;
 pub mod store;
 pub mod take;
 

@@ -1,8 +1,8 @@
--- Lines one after another (Loading, Progress); rows copied (Copying); the answers of `read` and `faulty_line` (Answers); the tables that `read` leaves hold the
--- text's records (Held), and the solver does not refuse them (Passing).
+-- Lines one after another (Loading, Progress); the rows of an accepted text copied (Copied); the answers of `read` and `faulty_line`
+-- (Answers); the tables that `read` leaves hold the text's records (Held), and the solver does not refuse them (Passing).
 pub mod Loading
 pub mod Progress
-pub mod Copying
+pub mod Copied
 pub mod Answers
 pub mod Held
 pub mod Passing

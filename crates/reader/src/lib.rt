@@ -1,8 +1,7 @@
 // The reader of paper 01's lines of hexadecimal, into the rows of three tables.
-mod copy;
 mod load;
 
-use copy::copy_rows;
+use frames::copy::copy_rows;
 use load::judge;
 use load::load;
 use tables::PropositionRow;

@@ -2,7 +2,7 @@
 use mathlib.Core.Path.{sym, _∙_}
 use native.Mathlib.Omega.{arith}
 use Rattle.reader.specs.Answers.{room-for-most, read-short, read-refused, read-accepted}
-use Rattle.reader.specs.Copying.{room-loaded, room-lent, copied-loaded}
+use Rattle.reader.specs.Copied.{room-loaded, room-lent, copied-loaded}
 use borrow.Author.Needs.{needs}
 use Rattle.reader.proofs.read.Statement.{statement}
 use Rattle.reader.proofs.read.Tie as tie

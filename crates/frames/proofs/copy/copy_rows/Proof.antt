@@ -1,8 +1,8 @@
--- `reader::copy::copy_rows` meets its contract.
+-- `frames::copy::copy_rows` meets its contract.
 use borrow.Author.Needs.{needs}
-use Rattle.reader.specs.Copying.{copied-each}
-use Rattle.reader.proofs.copy.copy_rows.Statement.{statement}
-use Rattle.reader.proofs.copy.copy_rows.Tie as tie
+use Rattle.frames.specs.Copying.{copied-each}
+use Rattle.frames.proofs.copy.copy_rows.Statement.{statement}
+use Rattle.frames.proofs.copy.copy_rows.Tie as tie
 
 returns : tie.Need-returns
 returns c = copied-each _ _ _ _ (c .before .before .before .before .before .before .before .copy-triples .ensures) (c .before .before .before .before .copy-quadruples .ensures) (c .before .copy-triples2 .ensures)

@@ -1,10 +1,10 @@
--- `reader::copy::copy_triples` meets its contract: the rows passed are copied (`Copying`).
+-- `frames::copy::copy_triples` meets its contract: the rows passed are copied (`Copying`).
 use Prim.Native.Nat.{_-_}
 use native.Mathlib.Omega.{arith}
 use borrow.Author.Needs.{needs}
-use Rattle.reader.specs.Copying.{Copying, copying-none, copying-more, copying-all}
-use Rattle.reader.proofs.copy.copy_triples.Statement.{statement}
-use Rattle.reader.proofs.copy.copy_triples.Tie as tie
+use Rattle.frames.specs.Copying.{Copying, copying-none, copying-more, copying-all}
+use Rattle.frames.proofs.copy.copy_triples.Statement.{statement}
+use Rattle.frames.proofs.copy.copy_triples.Tie as tie
 
 abbrev Inv-loop : tie.InvT-loop
 Inv-loop n from to₀ k₀ to k = Copying from to₀ to n k

@@ -8,8 +8,8 @@ ghost use Prim.Native.Nat.{_≤_};
 ghost use lib.ListN.{length, take};
 ghost use Rattle.lists.specs.Lent.{before, after};
 ghost use Rattle.lists.specs.Overwrite.{overwrite};
 ghost use Rattle.frames.specs.Rows.{rows};
-ghost use Rattle.reader.specs.Copying.{RoomFor, copied};
+ghost use Rattle.frames.specs.Copying.{RoomFor, copied};
 
 // The first n rows of a table of terms or of questions.
 fn copy_triples(n: usize, from: &[[u64; 3]], to: &mut [[u64; 3]])
@@ -32,7 +32,7 @@ fn copy_quadruples(n: usize, from: &[[u64; 4]], to: &mut [[u64; 4]])
 }
 
 // The counted rows of all three tables.
-pub(crate) fn copy_rows(
+pub fn copy_rows(
     counts: Counts,
     own_terms: &[TermRow],
     own_propositions: &[PropositionRow],
