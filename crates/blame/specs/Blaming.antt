@@ -20,7 +20,7 @@ use Rattle.consistency.specs.Deciding.{Decided}
 use Rattle.blame.specs.Kept.{AllKept, decided-kept, keptIsContradictory, kept-at, length-kept, kept-all}
 
 -- an accepted set, with a mark for each proposition and a label for each term
-pub record Labelled (S : Set) (marks reps : List ℕ) (offs : List ℤ) : Type 0 where
+pub record MarkedSet (S : Set) (marks reps : List ℕ) (offs : List ℤ) : Type 0 where
   pub good : AcceptedSet S
   pub marks-count : length marks ≡ S .propositions
   pub reps-count : length reps ≡ S .terms

@@ -9,7 +9,7 @@ ghost use lib.ListN.{length, getD};
 ghost use Rattle.lists.specs.Lent.{before, after};
 ghost use Rattle.tables.specs.Sets.{setOf};
 ghost use Rattle.blame.specs.Kept.{AllKept};
-ghost use Rattle.blame.specs.Blaming.{Labelled, tried, blameMarks};
+ghost use Rattle.blame.specs.Blaming.{MarkedSet, tried, blameMarks};
 
 // Drops proposition p, if those kept without it are contradictory. The labels are memory to work in.
 fn try_drop(
@@ -20,7 +20,7 @@ fn try_drop(
     offsets: &mut [i64],
     p: PropositionNumber,
 )
-    requires { ⌜ Labelled (setOf (now terms) (now propositions)) (now marks) (now representatives) (now offsets) ⌝ }
+    requires { ⌜ MarkedSet (setOf (now terms) (now propositions)) (now marks) (now representatives) (now offsets) ⌝ }
     requires { ⌜ (p .0 < length (now propositions)) × (getD (now marks) (p .0) 0 ≡ 1) ⌝ }
     ensures { λ _. ⌜ after marks ≡ tried (setOf (before terms) (before propositions)) (before marks) (p .0) ⌝ }
 {
@@ -40,7 +40,7 @@ pub fn blame_marks(
     representatives: &mut [u32],
     offsets: &mut [i64],
 )
-    requires { ⌜ Labelled (setOf (now terms) (now propositions)) (now marks) (now representatives) (now offsets) ⌝ }
+    requires { ⌜ MarkedSet (setOf (now terms) (now propositions)) (now marks) (now representatives) (now offsets) ⌝ }
     requires { ⌜ AllKept (now marks) (length (now propositions)) ⌝ }
     ensures { λ _. ⌜ after marks ≡ blameMarks (setOf (before terms) (before propositions)) ⌝ }
 {

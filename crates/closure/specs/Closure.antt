@@ -11,6 +11,7 @@ use lib.IntN.{ℤ, pos, _+ℤ_}
 use lib.ListN.{length}
 use borrow.Author.Tests.{eqb-true, eqb-false, eq-eqb, not-true, not-false}
 use Rattle.integers.specs.Compare.{eqℤ, eqℤ-true, eq-eqℤ}
+use Rattle.lists.specs.Booleans.{and-true, both-true}
 use Rattle.lists.specs.Items.{Item, In, not-in-empty, item-below}
 use Rattle.lists.specs.Search.{findPair, findPair-some, findPair-none}
 use Rattle.lists.specs.Collect.{collect, in-collect, collect-in}
@@ -59,13 +60,6 @@ sameAddress P x y =
 pub record OneAddress (P : Placement) (x y : Deref) : Type 0 where
   pub block : P .block (x .inner) ≡ P .block (y .inner)
   pub position : x .offset +ℤ P .position (x .inner) ≡ y .offset +ℤ P .position (y .inner)
-
-pub and-true : (a b : Bool) → (a && b) ≡ true → (a ≡ true) × (b ≡ true)
-and-true true b e = (refl, e)
-and-true false b e = (e, cc)
-
-pub both-true : (a b : Bool) → a ≡ true → b ≡ true → (a && b) ≡ true
-both-true a b p q = rw (p, q)
 
 pub sameAddress-true : (P : Placement) (x y : Deref) → sameAddress P x y ≡ true → OneAddress P x y
 unfolding sameAddress

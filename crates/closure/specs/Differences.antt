@@ -21,7 +21,8 @@ use Rattle.rules.specs.Soundness.{equal-holds}
 use Rattle.labels.specs.Labelling.{class-equal}
 use Rattle.labels.specs.Unique.{Canonical}
 use Rattle.closure.specs.Facts.{Facts, Lists, Pair, pair, comparison}
-use Rattle.closure.specs.Closure.{Deref, derefs, in-derefs, derefs-in, and-true, both-true}
+use Rattle.lists.specs.Booleans.{and-true, both-true}
+use Rattle.closure.specs.Closure.{Deref, derefs, in-derefs, derefs-in}
 
 pub or-cases : (a b : Bool) → (a || b) ≡ true → (a ≡ true) ⊎ (b ≡ true)
 or-cases true b e = inl refl

@@ -12,7 +12,7 @@ use lib.ListN.{length}
 use borrow.Author.Tests.{eqb-true, eqb-false, eq-eqb, not-true, not-false}
 use Rattle.integers.specs.Linear.{linear, value, ‹_›, #_, _⊕_}
 use Rattle.integers.specs.Compare.{eqℤ, eqℤ-true, eqℤ-false, eq-eqℤ}
-use Rattle.lists.specs.Booleans.{or-false}
+use Rattle.lists.specs.Booleans.{and-true, both-true, or-false}
 use Rattle.lists.specs.Items.{Item, In, item-below}
 use Rattle.lists.specs.Search.{any, any-true, any-false, isSome, findPair, findPair-some, findPair-none}
 use Rattle.rules.specs.Terms.{Term, deref, Comparison, Given, WellFormed}
@@ -24,7 +24,7 @@ use Rattle.labels.specs.Unique.{Canonical, unique}
 use Rattle.labels.specs.Steps.{Closed}
 use Rattle.closure.specs.Facts.{Facts, Lists, Pair, comparison}
 use Rattle.closure.specs.Join.{placed}
-use Rattle.closure.specs.Closure.{Deref, derefs, in-derefs, derefs-in, sameAddress, sameAddress-true, OneAddress, one-address, and-true, both-true, closure, closure-closed}
+use Rattle.closure.specs.Closure.{Deref, derefs, in-derefs, derefs-in, sameAddress, sameAddress-true, OneAddress, one-address, closure, closure-closed}
 
 -- the comparison holds as an equality
 unfoldable pub holds : Placement → Comparison → Bool

@@ -23,7 +23,7 @@ use Rattle.labels.specs.Unique.{Canonical}
 use Rattle.labels.specs.View.{view}
 use Rattle.integers.specs.Within.{Within}
 use Rattle.closure.specs.Facts.{Facts, facts, lists, comparison, pair}
-use Rattle.closure.specs.Closure.{and-true}
+use Rattle.lists.specs.Booleans.{and-true}
 use Rattle.closure.specs.Differences.{apart, moved, movedTo, otherOffset, classesOf, differentBase, or-cases, or-first, or-second, apart-true, true-apart}
 use Rattle.tables.specs.Records.{variableKind, disequalityKind, blockDisequalityKind}
 use Rattle.differences.specs.ColumnTables.{ColumnTables, columnTerm, columnProposition, columnTerms, columnPropositions}

@@ -12,7 +12,6 @@ use Rattle.types.specs.declared.Fault.{Fault}
 use Rattle.types.specs.declared.Verdict.{Verdict}
 use Rattle.types.specs.declared.Solved.{Solved}
 use Rattle.outcome.specs.PairBits.{pairBytes}
-use Rattle.outcome.specs.Lengths.{Lengths, outcome-lengths}
 use Rattle.tables.specs.Limits.{most}
 use Rattle.tables.specs.Rows.{termAt, propositionAt, questionAt}
 use Rattle.tables.specs.RefusalLaws.{orElse-none, both-none}
@@ -24,7 +23,7 @@ use Rattle.tables.specs.Memory.{Memory, memoryOf, memoryWith, callFault, Enough
 use Rattle.text.specs.Output.{labelFrames, blameFrames, middle, outcomeFrames}
 use Rattle.text.specs.OutputSize.{largestOutput, outcome-size}
 use Rattle.writer.specs.Frames.{setFrames}
-use Rattle.solver.specs.Call.{termsOf, propositionsOf, questionsOf, run, solvedBy, returned, left, Answered}
+use Rattle.solver.specs.Call.{termsOf, propositionsOf, questionsOf, run, solvedBy, returned, left, Answered, run-lengths}
 
 abbrev pub zeroMemory : Memory
 zeroMemory = memoryOf (replicate most 0) (replicate most (pos 0)) (replicate most 0) (replicate 32768 0) (replicate most 0)
@@ -78,10 +77,6 @@ module _ (T : Tables) (accepted : tablesFault most T ≡ none) where
   length-questions : length (questionsOf T) ≡ T .questions .count
   length-questions = length-questions-from (T .questions .count) (questionAt (T .questions .rows))
 
-  lengths : Lengths (termsOf T) (propositionsOf T) (questionsOf T) (run T)
-  unfolding run
-  lengths = outcome-lengths (termsOf T) (propositionsOf T) (questionsOf T)
-
   pub run-size : length (outcomeFrames (run T)) ≤ largestOutput
   unfolding run
   run-size =
@@ -114,31 +109,31 @@ module _ (T : Tables) (accepted : tablesFault most T ≡ none) where
 
     pub handed-on : HandedOn T N
     handed-on = record {
-      representatives = covered (run T .representatives) _ _ _ (lengths .representatives ∙ length-terms) representatives;
-      offsets = covered (run T .offsets) _ _ _ (lengths .offsets ∙ length-terms) offsets;
-      marks = covered (run T .marks) _ _ _ (lengths .marks ∙ length-propositions) marks;
-      answers = covered (run T .answers) _ _ _ (lengths .answers ∙ length-questions) answers;
+      representatives = covered (run T .representatives) _ _ _ (run-lengths T .representatives ∙ length-terms) representatives;
+      offsets = covered (run T .offsets) _ _ _ (run-lengths T .offsets ∙ length-terms) offsets;
+      marks = covered (run T .marks) _ _ _ (run-lengths T .marks ∙ length-propositions) marks;
+      answers = covered (run T .answers) _ _ _ (run-lengths T .answers ∙ length-questions) answers;
     }
 
     -- those cells hold the outcome
     front-representatives : take (T .terms .count) (N .representatives) ≡ run T .representatives
-    front-representatives = front _ _ _ _ (lengths .representatives ∙ length-terms) representatives
+    front-representatives = front _ _ _ _ (run-lengths T .representatives ∙ length-terms) representatives
 
     front-offsets : take (T .terms .count) (N .offsets) ≡ run T .offsets
-    front-offsets = front _ _ _ _ (lengths .offsets ∙ length-terms) offsets
+    front-offsets = front _ _ _ _ (run-lengths T .offsets ∙ length-terms) offsets
 
     front-marks : take (T .propositions .count) (N .marks) ≡ run T .marks
-    front-marks = front _ _ _ _ (lengths .marks ∙ length-propositions) marks
+    front-marks = front _ _ _ _ (run-lengths T .marks ∙ length-propositions) marks
 
     front-answers : take (T .questions .count) (N .answers) ≡ run T .answers
-    front-answers = front _ _ _ _ (lengths .answers ∙ length-questions) answers
+    front-answers = front _ _ _ _ (run-lengths T .answers ∙ length-questions) answers
 
     frames : (v : Verdict) → run T .verdict ≡ v → outcomeFrames (run T) ≡ setFrames v (middle v (run T)) (run T .answers)
     unfolding outcomeFrames
     frames v e = rw e
 
     pub same-labels : length (take (T .terms .count) (N .representatives)) ≡ length (take (T .terms .count) (N .offsets))
-    same-labels = rw (front-representatives, front-offsets) (lengths .representatives ∙ sym (lengths .offsets))
+    same-labels = rw (front-representatives, front-offsets) (run-lengths T .representatives ∙ sym (run-lengths T .offsets))
 
     pub satisfiable-frames : r ≡ Solved.Satisfiable
         → outcomeFrames (run T)

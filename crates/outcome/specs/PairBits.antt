@@ -35,7 +35,7 @@ pairBits f n = tabulate (λ k. number (λ b. pairBit f n (8 * k + b)) 8) 0 (pair
 unfoldable pub bitOf : List ℕ → ℕ → ℕ
 bitOf bytes i = getD bytes (i / 8) 0 / 2 ^ (i % 8) % 2
 
-bitValue-below : (b : Bool) → bitValue b < 2
+pub bitValue-below : (b : Bool) → bitValue b < 2
 bitValue-below true = omega arith
 bitValue-below false = omega arith
 

@@ -12,7 +12,7 @@ use lib.Pow.{shl-shr, shr-shr, pow-lt, pow-add}
 use lib.Seq.{getD-set-same, getD-set-other, getD-append-add, getD-drop, ext-getD}
 use borrow.Author.Tests.{eqb-true, eqb-false, eq-eqb, ne-eqb, ltb-true, ltb-false, le-ltb}
 use Rattle.lists.specs.Tabulate.{tabulate, length-tabulate, tabulate-at}
-use Rattle.outcome.specs.PairBits.{bitOf, bitValue, number, number-bit, pairBit, pairBits, pairBytes, pair-bit}
+use Rattle.outcome.specs.PairBits.{bitOf, bitValue, number, number-bit, pairBit, pairBits, pairBytes, pair-bit, bitValue-below}
 
 -- the table with bit i set to 1
 unfoldable pub withBit : List ℕ → ℕ → List ℕ
@@ -146,10 +146,6 @@ isSet-pairBits f n k h =
 pub length-pairBits : (f : ℕ → ℕ → Bool) (n : ℕ) → length (pairBits f n) ≡ pairBytes n
 unfolding pairBits
 length-pairBits f n = length-tabulate (λ k. number (λ b. pairBit f n (8 * k + b)) 8) 0 (pairBytes n)
-
-bitValue-below : (b : Bool) → bitValue b < 2
-bitValue-below true = omega arith
-bitValue-below false = omega arith
 
 number-below : (g : ℕ → Bool) (k : ℕ) → number g k < 2 ^ k
 unfolding number

@@ -14,7 +14,6 @@ use Rattle.types.specs.declared.Acceptance.{Acceptance}
 use Rattle.types.specs.declared.Acceptance.the-variants.{Accepted, Refused}
 use Rattle.outcome.specs.PairBits.{pairBytes}
 use Rattle.outcome.specs.Outcome.{Outcome, outcome}
-use Rattle.outcome.specs.Lengths.{Lengths, outcome-lengths}
 use Rattle.tables.specs.Limits.{most}
 use Rattle.tables.specs.Refusals.{orElse}
 use Rattle.tables.specs.TermTable.{length-terms-from}
@@ -26,7 +25,7 @@ use Rattle.tables.specs.Memory.{Memory, memoryFault, callFault, EnoughFor, enou
 use Rattle.refusals.specs.FirstFault.{accepts, refuses}
 use Rattle.refusals.specs.Parts.{counted, parts-fault}
 use Rattle.columns.specs.Telling.{questionsIn}
-use Rattle.solver.specs.Call.{termsOf, propositionsOf, questionsOf, run, solvedBy, returned, left, Answered}
+use Rattle.solver.specs.Call.{termsOf, propositionsOf, questionsOf, run, run-lengths, solvedBy, returned, left, Answered}
 use Rattle.solver.specs.Solving.{Asked, Leaves, Solves}
 use Rattle.solver.specs.Counted.{countedSet, countedQuestions, terms-count, propositions-count, questions-count, counted-terms, counted-propositions, counted-questions, counted-accepted, counted-asked}
 
@@ -110,10 +109,6 @@ module _ (T : Tables) (M : Memory) where
         unfolding run
         run-is = rw (counted-terms T counts, counted-propositions T counts, counted-questions T counts)
 
-        lengths : Lengths (termsOf T) (propositionsOf T) (questionsOf T) (run T)
-        unfolding run
-        lengths = outcome-lengths (termsOf T) (propositionsOf T) (questionsOf T)
-
         -- cells written in front of the others
         front : {A : Type 0} (new cells old : List A) (n : ℕ) → cells ≡ new → length new ≡ n → cells ++ drop n old ≡ overwrite new old
         front new cells old n e l = rw (e, ← l)
@@ -123,11 +118,11 @@ module _ (T : Tables) (M : Memory) where
         answered N r S =
             let L : Leaves (run T) N r = rw run-is at S in
             let n = length-terms-from (T .terms .count) _ in
-            let reps = front (run T .representatives) (N .representatives) (M .representatives) (T .terms .count) (L .representatives) (lengths .representatives ∙ n) in
-            let offs = front (run T .offsets) (N .offsets) (M .offsets) (T .terms .count) (L .offsets) (lengths .offsets ∙ n) in
-            let marks = front (run T .marks) (N .marks) (M .marks) (T .propositions .count) (L .marks) (lengths .marks ∙ length-propositions-from (T .propositions .count) _) in
-            let pairs = front (run T .pairs) (N .pairs) (M .pairs) (pairBytes (T .terms .count)) (L .pairs) (lengths .pairs ∙ ap pairBytes n) in
-            let answers = front (run T .answers) (N .answers) (M .answers) (T .questions .count) (L .answers) (lengths .answers ∙ length-questions-from (T .questions .count) _) in
+            let reps = front (run T .representatives) (N .representatives) (M .representatives) (T .terms .count) (L .representatives) (run-lengths T .representatives ∙ n) in
+            let offs = front (run T .offsets) (N .offsets) (M .offsets) (T .terms .count) (L .offsets) (run-lengths T .offsets ∙ n) in
+            let marks = front (run T .marks) (N .marks) (M .marks) (T .propositions .count) (L .marks) (run-lengths T .marks ∙ length-propositions-from (T .propositions .count) _) in
+            let pairs = front (run T .pairs) (N .pairs) (M .pairs) (pairBytes (T .terms .count)) (L .pairs) (run-lengths T .pairs ∙ ap pairBytes n) in
+            let answers = front (run T .answers) (N .answers) (M .answers) (T .questions .count) (L .answers) (run-lengths T .answers ∙ length-questions-from (T .questions .count) _) in
             record {
               returns = rw no-fault (L .verdict);
               leaves = rw no-fault (λ i. record { representatives = reps i; offsets = offs i; marks = marks i; pairs = pairs i; answers = answers i });

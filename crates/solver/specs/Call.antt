@@ -9,6 +9,7 @@ use Rattle.types.specs.declared.Verdict.{Verdict}
 use Rattle.types.specs.declared.Verdict.the-variants.{Satisfiable, Contradiction}
 use Rattle.rules.specs.Terms.{Term, Proposition, Comparison}
 use Rattle.outcome.specs.Outcome.{Outcome, outcome}
+use Rattle.outcome.specs.Lengths.{Lengths, outcome-lengths}
 use Rattle.tables.specs.Limits.{most}
 use Rattle.tables.specs.Rows.{Row, termAt, propositionAt, questionAt}
 use Rattle.tables.specs.TermTable.{termsFrom}
@@ -29,6 +30,10 @@ questionsOf T = questionsFrom (T .questions .count) (questionAt (T .questions .r
 
 unfoldable pub run : Tables → Outcome
 run T = outcome (termsOf T) (propositionsOf T) (questionsOf T)
+
+pub run-lengths : (T : Tables) → Lengths (termsOf T) (propositionsOf T) (questionsOf T) (run T)
+unfolding run
+run-lengths T = outcome-lengths (termsOf T) (propositionsOf T) (questionsOf T)
 
 abbrev pub solvedBy : Verdict → Solved
 solvedBy Satisfiable = Solved.Satisfiable

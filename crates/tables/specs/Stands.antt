@@ -15,7 +15,7 @@ use Rattle.integers.specs.Compare.{eqℤ, eqℤ-true}
 use Rattle.lists.specs.Search.{choose}
 use Rattle.rules.specs.Terms.{Term, variable, auxiliary, deref, Proposition, equality, disequality, block-disequality}
 use Rattle.integers.specs.Within.{Within}
-use Rattle.closure.specs.Closure.{and-true}
+use Rattle.lists.specs.Booleans.{and-true}
 use Rattle.tables.specs.Limits.{atomLimit, offsetLimit}
 use Rattle.tables.specs.Records.{TermRecord, PropositionRecord, variableKind, auxiliaryKind, derefKind, equalityKind, disequalityKind, blockDisequalityKind, when, atomRecord, offsetInRange, termOf, propositionOf}
 

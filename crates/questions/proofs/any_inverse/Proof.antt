@@ -9,7 +9,7 @@ use mir.ValLaws.{toZ-ofZ}
 use denote.Ref.{now}
 use borrow.Author.Count.{below-more}
 use borrow.Author.Tests.{eqb-true, not-true, not-false, eq-eqb}
-use Rattle.closure.specs.Closure.{and-true, both-true}
+use Rattle.lists.specs.Booleans.{and-true, both-true}
 use Rattle.tables.specs.Records.{derefKind}
 use Rattle.differences.specs.Marks.{false-true}
 use Rattle.questions.specs.Answers.{found, missing, ReadFrom}

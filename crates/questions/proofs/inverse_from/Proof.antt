@@ -9,7 +9,7 @@ use mir.ValLaws.{toZ-ofZ}
 use borrow.Author.Count.{below-more}
 use borrow.Author.Tests.{eqb-true, not-true, not-false, eq-eqb}
 use Rattle.integers.specs.Compare.{eqℤ-true, eqℤ-false}
-use Rattle.closure.specs.Closure.{and-true, both-true}
+use Rattle.lists.specs.Booleans.{and-true, both-true}
 use Rattle.differences.specs.Marks.{false-true}
 use Rattle.questions.specs.Answers.{found, missing, ReadPair}
 use Rattle.questions.proofs.inverse_from.Statement.{statement}
