@@ -34,7 +34,7 @@ pub fn digit_of(v: u8) -> u8
 }
 
 // The byte that two digits spell.
-pub fn byte(high: u8, low: u8) -> Spelled
+fn byte(high: u8, low: u8) -> Spelled
     ensures { λ r. ⌜ r ≡ spelled (pairByte (digit high) (digit low)) ⌝ }
 {
     let Spelled::Value(h) = digit(high) else {
