@@ -1,27 +1,55 @@
--- What a call returns, told by its number.
-use Prim.Native.Nat.{ℕ, _%_, _^_}
+-- What the functions for C return: the number of a result, whose fields tell it whole.
+use Prim.Native.Nat.{ℕ}
 use mathlib.Core.Path.{_≡_}
 use mathlib.Core.List.{List}
-use mathlib.Core.Option.{some}
 use native.Mathlib.Omega.{arith}
 use Rattle.types.specs.declared.Fault.{Fault}
-use Rattle.numbers.specs.Numbers.{readNumber}
+use Rattle.types.specs.declared.Counts.{Counts}
+use Rattle.types.specs.declared.Solved.{Solved}
+use Rattle.types.specs.declared.ReadResult.{ReadResult}
+use Rattle.numbers.specs.Numbers.{solvedNumber, readNumber, Tells, TellsRead, TellsCounts, solved-tells, refused-tells, accepted-tells}
 use Rattle.tables.specs.Limits.{most}
-use Rattle.tables.specs.TableFaults.{Tables, tablesFault}
-use Rattle.tables.specs.Memory.{Memory, callFault}
+use Rattle.tables.specs.TableFaults.{Tables}
+use Rattle.tables.specs.Memory.{Memory}
 use Rattle.tables.specs.Places.{call-place, tables-place}
 use Rattle.frames.specs.Rows.{Rows}
-use Rattle.reader.specs.Answers.{readInto, answer, left}
+use Rattle.reader.specs.Answers.{ReadAs}
+use Rattle.reader.specs.Passing.{read-sized}
+use Rattle.reader.specs.Facts.{read-place}
+use Rattle.solver.specs.Call.{Answered, verdictOf}
+use Rattle.solver.specs.Demands.{refused-exactly, verdict-refused-exactly}
 
--- the number of what the definitions answer, and the rows that they leave
-pub record ReadAsNumber (text : List ℕ) (C : Rows) (r : ℕ) (D : Rows) : Type 0 where
-  pub result : r ≡ readNumber (answer (readInto C text))
-  pub cells : D ≡ left (readInto C text) C
+-- the number of what `solve` returns, and the memory that it leaves
+pub record AnsweredNumber (T : Tables) (M N : Memory) (r : ℕ) : Type 0 where
+  pub solved : Solved
+  pub number : r ≡ solvedNumber solved
+  pub answered : Answered T M N solved
 
--- the place of a refusal is told whole: of `solve`
-pub place-whole : (T : Tables) (M : Memory) (f : Fault) → callFault T M ≡ some f → f .place % 2 ^ 16 ≡ f .place
-place-whole T M f e = omega (arith, call-place T M f e)
+-- the number of what `read` returns, and the rows that it leaves
+pub record ReadNumber (text : List ℕ) (C : Rows) (r : ℕ) (D : Rows) : Type 0 where
+  pub result : ReadResult
+  pub number : r ≡ readNumber result
+  pub read : ReadAs text C result D
 
--- and of `verdict`
-pub tables-place-whole : (T : Tables) (f : Fault) → tablesFault most T ≡ some f → f .place % 2 ^ 16 ≡ f .place
-tables-place-whole T f e = omega (arith, tables-place most T f e)
+-- The number tells a refusal whole: of `solve`, of `verdict`,
+pub solve-tells : (T : Tables) (M N : Memory) (r : ℕ) (A : AnsweredNumber T M N r) (f : Fault) → A .solved ≡ Solved.Refused f → Tells r f
+solve-tells T M N r A f e =
+    let p = call-place T M f (refused-exactly T M N (A .solved) (A .answered) f .0 e) in
+    rw (A .number, e) (solved-tells f (omega arith))
+
+pub verdict-tells : (T : Tables) (f : Fault) → verdictOf T ≡ Solved.Refused f → Tells (solvedNumber (verdictOf T)) f
+verdict-tells T f e =
+    let p = tables-place most T f (verdict-refused-exactly T f .0 e) in
+    rw e (solved-tells f (omega arith))
+
+-- and of `read`; or the counts.
+module _ (text : List ℕ) (C D : Rows) (r : ℕ) (A : ReadNumber text C r D) where
+  pub read-tells : (f : Fault) → A .result ≡ ReadResult.Refused f → TellsRead r f
+  read-tells f e =
+      let p = read-place text C D f (rw e at (A .read)) in
+      rw (A .number, e) (refused-tells f (omega arith))
+
+  pub read-tells-counts : (c : Counts) → A .result ≡ ReadResult.Accepted c → TellsCounts r c
+  read-tells-counts c e =
+      let s = read-sized text C c D (rw e at (A .read)) in
+      rw (A .number, e) (accepted-tells c (omega (arith, s .few-terms)) (omega (arith, s .few-propositions)) (omega (arith, s .few-questions)))

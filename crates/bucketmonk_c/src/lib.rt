@@ -10,17 +10,15 @@ use tables::PropositionRow;
 use tables::QuestionRow;
 use tables::TermRow;
 ghost use mathlib.Core.Path.{_≡_};
-ghost use lib.ListN.{length};
 ghost use Rattle.lists.specs.Lent.{before, after};
-ghost use Rattle.lists.specs.Overwrite.{overwrite};
-ghost use Rattle.tables.specs.Memory.{memoryOf, callFault};
+ghost use Rattle.tables.specs.Memory.{memoryOf};
 ghost use Rattle.tables.specs.TableFaults.{tablesOf};
-ghost use Rattle.solver.specs.Call.{returned, left, unasked, verdictOf};
+ghost use Rattle.solver.specs.Call.{unasked, verdictOf};
 ghost use Rattle.frames.specs.Rows.{rows};
 ghost use Rattle.reader.specs.Answers.{faultyPart};
-ghost use Rattle.driver.specs.Within.{outputWithin};
+ghost use Rattle.driver.specs.Within.{WritesOutput};
 ghost use Rattle.numbers.specs.Numbers.{solvedNumber};
-ghost use Rattle.bucketmonk_c.specs.Results.{ReadAsNumber};
+ghost use Rattle.bucketmonk_c.specs.Results.{AnsweredNumber, ReadNumber};
 
 // `solve`, with the number of what it returns.
 #[no_mangle]
@@ -40,12 +38,8 @@ pub extern "C" fn bucketmonk_solve(
     ensures { λ r.
         let T = tablesOf n (before terms) m (before propositions) q (before questions) in
         let M = memoryOf (before representatives) (before offsets) (before marks) (before pairs) (before answers) in
-        ⌜ r ≡ solvedNumber (returned (callFault T M) T) ⌝ }
-    ensures { λ _.
-        let T = tablesOf n (before terms) m (before propositions) q (before questions) in
-        let M = memoryOf (before representatives) (before offsets) (before marks) (before pairs) (before answers) in
         let N = memoryOf (after representatives) (after offsets) (after marks) (after pairs) (after answers) in
-        ⌜ N ≡ left (callFault T M) T M ⌝ }
+        ⌜ AnsweredNumber T M N r ⌝ }
 {
     solved_number(solve(
         n,
@@ -87,7 +81,7 @@ pub extern "C" fn bucketmonk_read(
     ensures { λ r.
         let C = rows (before terms) (before propositions) (before questions) in
         let D = rows (after terms) (after propositions) (after questions) in
-        ⌜ ReadAsNumber (before text) C r D ⌝ }
+        ⌜ ReadNumber (before text) C r D ⌝ }
 {
     let found = read(text, terms, propositions, questions);
     read_number(found)
@@ -114,8 +108,7 @@ pub extern "C" fn bucketmonk_faulty_line(
 // What the program writes for a text, in a buffer.
 #[no_mangle]
 pub extern "C" fn bucketmonk_output(text: &[u8], out: &mut [u8]) -> usize
-    ensures { λ r. ⌜ r ≡ length (outputWithin (before text) (length (before out))) ⌝ }
-    ensures { λ _. ⌜ after out ≡ overwrite (outputWithin (before text) (length (before out))) (before out) ⌝ }
+    ensures { λ r. ⌜ WritesOutput (before text) (before out) r (after out) ⌝ }
 {
     write_output(text, out)
 }

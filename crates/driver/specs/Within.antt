@@ -19,9 +19,24 @@ use Rattle.writer.specs.Appended.{Appended}
 unfoldable pub outputWithin : List ℕ → ℕ → List ℕ
 outputWithin text room = choose (leb largestOutput room) (output text) []
 
+-- the output is written whole if there is room for the largest one, else not at all
+pub written-whole : (text : List ℕ) (room : ℕ) → largestOutput ≤ room → outputWithin text room ≡ output text
+unfolding outputWithin
+written-whole text room h = rw (le-leb largestOutput room h)
+
+pub written-not : (text : List ℕ) (room : ℕ) → room < largestOutput → outputWithin text room ≡ []
+unfolding outputWithin
+written-not text room h = rw (lt-leb largestOutput room h)
+
 -- the answer n and the buffer afterwards
 abbrev pub WritesOutput : List ℕ → List ℕ → ℕ → List ℕ → Type 0
 WritesOutput text old n new = (n ≡ length (outputWithin text (length old))) × (new ≡ overwrite (outputWithin text (length old)) old)
+
+pub written-all : (text old : List ℕ) (n : ℕ) (new : List ℕ) → WritesOutput text old n new → largestOutput ≤ length old → (n ≡ length (output text)) × (new ≡ overwrite (output text) old)
+written-all text old n new w h = rw (written-whole text (length old) h) at w
+
+pub written-none : (text old : List ℕ) (n : ℕ) (new : List ℕ) → WritesOutput text old n new → length old < largestOutput → (n ≡ 0) × (new ≡ old)
+written-none text old n new w h = rw (written-not text (length old) h) at w
 
 appended-overwrite : (old bytes new : List ℕ) (n : ℕ) → Appended old 0 bytes new n → length bytes ≤ length old → (n ≡ length bytes) × (new ≡ overwrite bytes old)
 appended-overwrite old bytes new n a h =
@@ -30,12 +45,7 @@ appended-overwrite old bytes new n a h =
 
 module _ (text old : List ℕ) where
   pub writes-nothing : length old < largestOutput → WritesOutput text old 0 old
-  unfolding outputWithin
-  writes-nothing h = rw (lt-leb largestOutput (length old) h) (refl, refl)
-
-  output-fits : largestOutput ≤ length old → outputWithin text (length old) ≡ output text
-  unfolding outputWithin
-  output-fits h = rw (le-leb largestOutput (length old) h)
+  writes-nothing h = rw (written-not text (length old) h) (refl, refl)
 
   output-is : output text ≡ readingFrames (reading (take judged text))
   unfolding output
@@ -48,7 +58,7 @@ module _ (text old : List ℕ) where
       → Appended old 0 (readingFrames (reading part)) new n
       → WritesOutput text old n new
   writes-all h part e n new a =
-      rw (output-fits h)
+      rw (written-whole text (length old) h)
       (appended-overwrite old (output text) new n (rw (output-is, ← e) a) (omega (arith, output-size text)))
 
 -- never more than there is room for

@@ -17,7 +17,6 @@ ghost use mathlib.Core.Option.{none};
 ghost use Prim.Native.Nat.{_≤_};
 ghost use lib.ListN.{length};
 ghost use Rattle.lists.specs.Lent.{before, after};
-ghost use Rattle.lists.specs.Overwrite.{overwrite};
 ghost use Rattle.tables.specs.Limits.{most};
 ghost use Rattle.tables.specs.TableFaults.{tablesFault};
 ghost use Rattle.text.specs.Reading.{reading};
@@ -27,7 +26,7 @@ ghost use Rattle.frames.specs.Rows.{rows};
 ghost use Rattle.reader.specs.Passing.{readTables};
 ghost use Rattle.writer.specs.Appended.{Appended};
 ghost use Rattle.solver.specs.Call.{run};
-ghost use Rattle.driver.specs.Within.{outputWithin};
+ghost use Rattle.driver.specs.Within.{WritesOutput};
 
 // The bytes of a text that are judged.
 pub const JUDGED: usize = 32768;
@@ -99,8 +98,7 @@ fn answer_text(text: &[u8], out: &mut [u8]) -> usize
 // Writes to `out` what the program writes for a text, and answers how many bytes that are. The text may have any length; its first
 // JUDGED bytes decide. Where `out` has less room than the largest output takes, nothing is written and the answer is 0.
 pub fn write_output(text: &[u8], out: &mut [u8]) -> usize
-    ensures { λ r. ⌜ r ≡ length (outputWithin (before text) (length (before out))) ⌝ }
-    ensures { λ _. ⌜ after out ≡ overwrite (outputWithin (before text) (length (before out))) (before out) ⌝ }
+    ensures { λ r. ⌜ WritesOutput (before text) (before out) r (after out) ⌝ }
 {
     if out.len() < LARGEST {
         return 0;

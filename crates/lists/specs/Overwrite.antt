@@ -5,11 +5,15 @@ use mathlib.Core.List.{List, [], _∷_, _++_, append-nil}
 use native.Mathlib.Omega.{arith}
 use native.Mathlib.Numerals.{add-one}
 use lib.ListN.{length, getD, take, drop, set, length-append, length-drop, List·getD-append}
-use lib.Seq.{drop-length, take-append-seam, getD-append-add, getD-drop, set-at, drop-cons, append-snoc, take-suc, length-take-le}
+use lib.Seq.{drop-length, take-append-seam, drop-append-seam, getD-append-add, getD-drop, set-at, drop-cons, append-snoc, take-suc, length-take-le}
 
 -- the first cells written, the others as they were
 abbrev pub overwrite {ℓ} : {A : Type ℓ} → List A → List A → List A
 overwrite new old = new ++ drop (length new) old
+
+-- a list of the same length, with the same cells from number n on
+abbrev pub Keeps {ℓ} : {A : Type ℓ} → ℕ → List A → List A → Type ℓ
+Keeps n old new = (length new ≡ length old) × (drop n new ≡ drop n old)
 
 module _ {A : Type 0} (new old : List A) where
   pub length-overwrite : length new ≤ length old → length (overwrite new old) ≡ length old
@@ -34,6 +38,10 @@ module _ {A : Type 0} (new old : List A) where
   -- the written cells
   pub take-overwrite : (n : ℕ) → length new ≡ n → take n (overwrite new old) ≡ new
   take-overwrite n e = rw (← e) (take-append-seam new (drop (length new) old))
+
+  -- the others
+  pub overwrite-keeps : (n : ℕ) → length new ≡ n → n ≤ length old → Keeps n old (overwrite new old)
+  overwrite-keeps n e h = (length-overwrite (omega arith), rw (← e) (drop-append-seam new (drop (length new) old)))
 
   -- one cell more
   pub overwrite-next : (x : A) (k : ℕ) → length new ≡ k → k < length old → set (overwrite new old) k x ≡ overwrite (new ++ (x ∷ [])) old

@@ -1,15 +1,19 @@
 -- The number that stands for what a call returns.
-use Prim.Native.Nat.{ℕ, _+_, _*_, _%_, _^_, _≤_}
+use Prim.Native.Nat.{ℕ, _+_, _*_, _/_, _%_, _^_, _<_, _≤_}
+use mathlib.Core.Path.{_≡_}
 use native.Mathlib.Omega.{arith}
 use Rattle.types.specs.declared.Refusal.{Refusal}
+use Rattle.types.specs.declared.Fault.{Fault}
+use Rattle.types.specs.declared.Counts.{Counts}
+use Rattle.types.specs.declared.Verdict.{Verdict}
 use Rattle.types.specs.declared.Solved.{Solved}
 use Rattle.types.specs.declared.ReadResult.{ReadResult}
-use Rattle.types.specs.Numbers.{refusalNumber}
+use Rattle.types.specs.Numbers.{verdictNumber, refusalNumber}
 
--- 0 satisfiable, 1 contradiction; a refusal has its number in the higher and its place in the lower 16 bits (`place-whole`).
+-- The verdict's number; a refusal has its number in the higher and its place in the lower 16 bits.
 abbrev pub solvedNumber : Solved → ℕ
-solvedNumber Solved.Satisfiable = 0
-solvedNumber Solved.Contradiction = 1
+solvedNumber Solved.Satisfiable = verdictNumber Verdict.Satisfiable
+solvedNumber Solved.Contradiction = verdictNumber Verdict.Contradiction
 solvedNumber (Solved.Refused f) = 2 ^ 16 * refusalNumber (f .refusal) + f .place % 2 ^ 16
 
 -- The counts of an accepted text in 16 bits each; a refusal has its number in the highest 16 bits and its frame in the others.
@@ -29,3 +33,29 @@ refusal-small Refusal.QuestionTermNotListed = omega arith
 refusal-small Refusal.TooShort = omega arith
 refusal-small Refusal.Malformed = omega arith
 refusal-small Refusal.GroupOrder = omega arith
+
+-- A number tells a refusal and its place: of `solve` and `verdict`,
+pub record Tells (n : ℕ) (f : Fault) : Type 0 where
+  pub refusal : n / 2 ^ 16 ≡ refusalNumber (f .refusal)
+  pub place : n % 2 ^ 16 ≡ f .place
+
+-- of `read`,
+pub record TellsRead (n : ℕ) (f : Fault) : Type 0 where
+  pub refusal : n / 2 ^ 48 ≡ refusalNumber (f .refusal)
+  pub place : n % 2 ^ 48 ≡ f .place
+
+-- or the counts of an accepted text.
+pub record TellsCounts (n : ℕ) (c : Counts) : Type 0 where
+  pub refusal : n / 2 ^ 48 ≡ 0
+  pub terms : n / 2 ^ 32 % 2 ^ 16 ≡ c .terms
+  pub propositions : n / 2 ^ 16 % 2 ^ 16 ≡ c .propositions
+  pub questions : n % 2 ^ 16 ≡ c .questions
+
+pub solved-tells : (f : Fault) → f .place < 2 ^ 16 → Tells (solvedNumber (Solved.Refused f)) f
+solved-tells f h = record { refusal = omega arith; place = omega arith }
+
+pub refused-tells : (f : Fault) → f .place < 2 ^ 48 → TellsRead (readNumber (ReadResult.Refused f)) f
+refused-tells f h = record { refusal = omega arith; place = omega arith }
+
+pub accepted-tells : (c : Counts) → c .terms < 2 ^ 16 → c .propositions < 2 ^ 16 → c .questions < 2 ^ 16 → TellsCounts (readNumber (ReadResult.Accepted c)) c
+accepted-tells c t p q = record { refusal = omega arith; terms = omega arith; propositions = omega arith; questions = omega arith }

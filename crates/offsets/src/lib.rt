@@ -15,11 +15,11 @@ pub fn widened(z: i32) -> i64
 }
 
 // An offset that fits 32 bits, in 32.
-pub fn narrowed(z: i64) -> i32
-    requires { ⌜ SFits w32 z ⌝ }
-    ensures { λ r. ⌜ r ≡ z ⌝ }
+pub fn narrowed(wide: i64) -> i32
+    requires { ⌜ SFits w32 wide ⌝ }
+    ensures { λ r. ⌜ r ≡ wide ⌝ }
 {
-    z as i32
+    wide as i32
 }
 
 // The offsets of the tables negated and subtracted, over the whole range of 32 bits (specs/Exact.antt: at the lowest number and around
@@ -30,10 +30,10 @@ pub fn negated(z: i32) -> i64
     -(z as i64)
 }
 
-pub fn subtracted(a: i32, b: i32) -> i64
-    ensures { λ r. ⌜ r ≡ a -ℤ b ⌝ }
+pub fn subtracted(y: i32, z: i32) -> i64
+    ensures { λ r. ⌜ r ≡ y -ℤ z ⌝ }
 {
-    a as i64 - b as i64
+    y as i64 - z as i64
 }
 
 // Sums of labels. The callers know the bounds by which they fit (specs/Fits.antt).

@@ -19,10 +19,10 @@ use Rattle.closure.specs.Verdict.{contradictory, contradiction-exact}
 use Rattle.outcome.specs.Blame.{keptContradictory, dropBelow, blame}
 
 -- each mark of a is one of b
-abbrev Below : List Bool → List Bool → Type 0
+abbrev pub Below : List Bool → List Bool → Type 0
 Below a b = (k : ℕ) → getD a k false ≡ true → getD b k false ≡ true
 
-unmarked : (l : List Bool) (k : ℕ) → getD (set l k false) k false ≡ false
+pub unmarked : (l : List Bool) (k : ℕ) → getD (set l k false) k false ≡ false
 unmarked [] k = refl
 unmarked (b ∷ l) zero = refl
 unmarked (b ∷ l) (suc k) = unmarked l k
@@ -69,11 +69,11 @@ module _ (ts : List Term) (ps : List Proposition) (wf : WellFormed ts (listed ts
       (facts ts (select a ps))
       (lists ts (select a ps))
 
-  kept-more : (a b : List Bool) → Below a b → keptContradictory ts ps a ≡ true → keptContradictory ts ps b ≡ true
+  pub kept-more : (a b : List Bool) → Below a b → keptContradictory ts ps a ≡ true → keptContradictory ts ps b ≡ true
   kept-more a b h e =
       kept-exact b .1 (contradiction-more ts (listed ts (select a ps)) (listed ts (select b ps)) (fewer a b h) (kept-exact a .0 e))
 
-  abbrev dropped : ℕ → List Bool → Bool → List Bool
+  abbrev pub dropped : ℕ → List Bool → Bool → List Bool
   dropped k kept t = choose t (set kept k false) kept
 
   dropped-below : (k : ℕ) (kept : List Bool) (t : Bool) → Below (dropped k kept t) kept
@@ -133,9 +133,10 @@ module _ (ts : List Term) (ps : List Proposition) (wf : WellFormed ts (listed ts
       kept-exact (dropBelow ts ps (length ps) (replicate (length ps) true)) .0
       (drop-contradictory (length ps) (replicate (length ps) true) (all-kept e))
 
-  -- and dropping any one of them leaves none
-  pub blame-minimal : (j : ℕ) → j < length ps → getD (blame ts ps) j false ≡ true → Contradiction ts (listed ts (select (set (blame ts ps) j false) ps)) → ⊥
+  -- and without any one of them they are not
+  pub blame-less : (j : ℕ) → j < length ps → getD (blame ts ps) j false ≡ true → keptContradictory ts ps (set (blame ts ps) j false) ≡ false
   unfolding blame
-  blame-minimal j h m c =
-      not-marked _ (kept-exact (set (dropBelow ts ps (length ps) (replicate (length ps) true)) j false) .1 c)
-      (drop-minimal (length ps) (replicate (length ps) true) j h m)
+  blame-less j h m = drop-minimal (length ps) (replicate (length ps) true) j h m
+
+  pub blame-minimal : (j : ℕ) → j < length ps → getD (blame ts ps) j false ≡ true → Contradiction ts (listed ts (select (set (blame ts ps) j false) ps)) → ⊥
+  blame-minimal j h m c = not-marked _ (kept-exact (set (blame ts ps) j false) .1 c) (blame-less j h m)

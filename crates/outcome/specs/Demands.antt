@@ -1,15 +1,17 @@
 -- Demands 2 and 3: what a run leaves is what the rules derive, and what that means in the assignments.
 -- Each theorem is about the outcome of a set whose dereferences, propositions and questions name listed terms.
-use Prim.Native.Nat.{ℕ, zero, suc, _+_, _*_, _<_, _≤_}
+use Prim.Native.Nat.{ℕ, zero, suc, _+_, _*_, _/_, _%_, _<_, _≤_}
 use mathlib.Core.Path.{_≡_, refl, sym, _∙_, ap}
 use mathlib.Core.Logic.{_≢_, _⊎_, inl, inr, ⊎-elim, _↔_}
-use mathlib.Core.Bool.{Bool, true, false}
-use mathlib.Core.List.{List, [], _∷_, map}
+use mathlib.Core.Bool.{Bool, true, false, not}
+use mathlib.Core.List.{List, [], _∷_, _++_, map}
 use native.Mathlib.Omega.{arith}
 use lib.IntN.{ℤ, pos}
-use lib.ListN.{length, getD, replicate, getD-replicate}
+use lib.ListN.{length, getD, set, replicate, getD-replicate}
+use lib.Pow.{shr-le}
 use Rattle.lists.specs.Items.{Item, item-map, item-below, getD-item}
 use Rattle.lists.specs.Search.{choose}
+use Rattle.lists.specs.Tabulate.{select}
 use Rattle.types.specs.declared.Verdict.{Verdict}
 use Rattle.types.specs.declared.Verdict.the-variants as verdict
 use Rattle.types.specs.declared.Answer.{Answer}
@@ -18,15 +20,29 @@ use Rattle.types.specs.Numbers.{answerNumber}
 use Rattle.rules.specs.Terms.{Term, Proposition, Comparison, listed, WellFormed}
 use Rattle.rules.specs.Rules.{Equal, Different, Contradiction}
 use Rattle.rules.specs.Assignments.{Placement, Holds, Differs, Assignment}
+use Rattle.rules.specs.Monotone.{well-formed-less}
 use Rattle.rules.specs.Soundness.{equal-holds, different-differs}
 use Rattle.labels.specs.Unique.{Canonical, canonical-equal, unique}
 use Rattle.closure.specs.Facts.{facts, lists}
-use Rattle.closure.specs.Join.{Label, placed, rep-at, off-at}
+use Rattle.closure.specs.Join.{Label, placed, own, length-own, own-at, rep-at, off-at}
 use Rattle.closure.specs.Closure.{closure, length-closure}
 use Rattle.closure.specs.Verdict.{holds, holds-true, true-holds, contradictory, contradiction-exact, contradiction-no-assignment, verdict-satisfiable, closure-canonical}
 use Rattle.closure.specs.Differences.{different, different-exact}
-use Rattle.outcome.specs.PairBits.{bitOf, bitValue, pair-bit}
+use Rattle.outcome.specs.Blame.{keptContradictory, blame}
+use Rattle.outcome.specs.BlameMinimal.{some-of, kept-exact, blame-contradictory, blame-less}
+use Rattle.outcome.specs.BlameOrder.{triedMarks, select-tried, blame-order}
+use Rattle.outcome.specs.Lengths.{length-blame}
+use Rattle.outcome.specs.Marks.{marked, tried, marked-all, marked-without, tried-select, mark-at}
+use Rattle.outcome.specs.PairBits.{bitOf, bitValue, bitValue-below, pairBytes, pair-bit, unused-bit}
 use Rattle.outcome.specs.Outcome.{Outcome, outcome, satisfiable, contradiction, answer as answerOf}
+
+bit-true : (b : Bool) → bitValue b ≡ 1 → b ≡ true
+bit-true true e = refl
+bit-true false e = absurd (omega arith)
+
+not-zero : (b : Bool) → bitValue (not b) ≡ 0 → b ≡ true
+not-zero true e = refl
+not-zero false e = absurd (omega arith)
 
 module _ (ts : List Term) (ps : List Proposition) (qs : List Comparison) (wf : WellFormed ts (listed ts ps)) where
   abbrev contra : Bool
@@ -64,7 +80,7 @@ module _ (ts : List Term) (ps : List Proposition) (qs : List Comparison) (wf : W
       (λ e. c .0 (contradiction-verdict .0 e), λ k. contradiction-verdict .1 (c .1 k))
 
   module _ (sat : outcome ts ps qs .verdict ≡ verdict.Satisfiable) where
-    no-contra : contra ≡ false
+    pub no-contra : contra ≡ false
     no-contra = go contra refl
       where
         go : (b : Bool) → contra ≡ b → b ≡ false
@@ -219,12 +235,95 @@ module _ (ts : List Term) (ps : List Proposition) (qs : List Comparison) (wf : W
       pub pair-different : bit ≡ 1 ↔ Different ts (listed ts ps) i (pos 0) j
       pair-different =
           let d = different-exact ts (listed ts ps) wf (facts ts ps) (lists ts ps) P canonical hi hj in
-          (λ e. d .0 (go (different ts (facts ts ps) P i (pos 0) j) (sym bit-is ∙ e)), λ k. bit-is ∙ rw (d .1 k))
-        where
-          go : (b : Bool) → bitValue b ≡ 1 → b ≡ true
-          go true e = refl
-          go false e = absurd (omega arith)
+          (λ e. d .0 (bit-true (different ts (facts ts ps) P i (pos 0) j) (sym bit-is ∙ e)), λ k. bit-is ∙ rw (d .1 k))
 
       -- demand 3: a pair whose bit is 1 differs in every assignment
       pub pair-assignments : bit ≡ 1 → (A : Placement) → Assignment ts (listed ts ps) A → Differs A i (pos 0) j
       pair-assignments e A M = different-differs ts (listed ts ps) A M (pair-different .0 e)
+
+    -- a bit that is no pair's is 0
+    pub unused-zero : (i : ℕ) → length ts * length ts ≤ i → i < 8 * pairBytes (length ts) → bitOf (outcome ts ps qs .pairs) i ≡ 0
+    unfolding satisfiable
+    unused-zero i h g = rw leaves (unused-bit (λ a b. different ts (facts ts ps) P a (pos 0) b) (length ts) i h g)
+
+    -- nothing is blamed
+    pub unblamed : (k : ℕ) → k < length ps → getD (outcome ts ps qs .marks) k 0 ≡ 0
+    unfolding satisfiable
+    unblamed k h = rw leaves (getD-replicate (length ps) k 0 0 h)
+
+  module _ (con : outcome ts ps qs .verdict ≡ verdict.Contradiction) where
+    contra-is : contra ≡ true
+    contra-is = contradiction-verdict .0 con
+
+    left : outcome ts ps qs ≡ contradiction ts ps qs
+    left = outcome-contradiction contra-is
+
+    -- each term is its own representative at offset 0
+    pub own-representative : (t : ℕ) → t < length ts → (getD (outcome ts ps qs .representatives) t 0 ≡ t) × (getD (outcome ts ps qs .offsets) t (pos 0) ≡ pos 0)
+    unfolding contradiction placed
+    own-representative t h =
+        let long : t < length (own 0 (length ts)) = omega (arith, length-own 0 (length ts)) in
+        let o = own-at 0 (length ts) t h in
+        let s : 0 + t ≡ t = omega arith in
+        (rw left (rep-at (own 0 (length ts)) t long ∙ ap (λ (x : Label). x .rep) o ∙ s), rw left (off-at (own 0 (length ts)) t long ∙ ap (λ (x : Label). x .off) o))
+
+    -- no pair bit is set, and each answer is 3
+    pub pairs-zero : (i : ℕ) → bitOf (outcome ts ps qs .pairs) i ≡ 0
+    unfolding contradiction bitOf
+    pairs-zero i = rw (left, zeros (pairBytes (length ts)) (i / 8)) (omega (arith, shr-le 0 (i % 8)))
+      where
+        zeros : (n k : ℕ) → getD {A = ℕ} (replicate n 0) k 0 ≡ 0
+        zeros zero k = refl
+        zeros (suc n) zero = refl
+        zeros (suc n) (suc k) = zeros n k
+
+    pub answers-contradictory : (k : ℕ) → k < length qs → getD (outcome ts ps qs .answers) k 0 ≡ answerNumber answer.Contradictory
+    unfolding contradiction
+    answers-contradictory k h = rw left (getD-replicate (length qs) k 3 0 h)
+
+    -- the marks, with any cells beyond
+    module _ (rest : List ℕ) where
+      abbrev marks : List ℕ
+      marks = outcome ts ps qs .marks ++ rest
+
+      written : marks ≡ map bitValue (blame ts ps) ++ rest
+      unfolding contradiction
+      written = rw left
+
+      abbrev without : (l : List Bool) → WellFormed ts (listed ts (select l ps))
+      without l = well-formed-less ts (listed ts (select l ps)) (listed ts ps) (some-of ts ps wf l) wf
+
+      -- those marked are contradictory
+      pub blamed-contradictory : Contradiction ts (listed ts (marked marks ps))
+      blamed-contradictory = rw (written, marked-all (blame ts ps) rest ps (length-blame ts ps)) (blame-contradictory ts ps wf contra-is)
+
+      module _ (k : ℕ) (h : k < length ps) where
+        abbrev mark : ℕ
+        mark = getD marks k 0
+
+        mark-is : mark ≡ bitValue (getD (blame ts ps) k false)
+        mark-is = rw written (mark-at (blame ts ps) rest k (omega (arith, length-blame ts ps)))
+
+        is-marked : mark ≡ 1 → getD (blame ts ps) k false ≡ true
+        is-marked e = bit-true (getD (blame ts ps) k false) (sym mark-is ∙ e)
+
+        -- without any one of them they have an assignment, so they are minimal
+        pub blamed-minimal : mark ≡ 1 → (A : Placement) × Assignment ts (listed ts (marked (set marks k 0) ps)) A
+        unfolding keptContradictory
+        blamed-minimal e =
+            let l = set (blame ts ps) k false in
+            rw (written, marked-without (blame ts ps) rest ps k (length-blame ts ps) h)
+            (_, verdict-satisfiable ts (listed ts (select l ps)) (without l) (facts ts (select l ps)) (lists ts (select l ps)) (blame-less ts ps wf k h (is-marked e)))
+
+        tried-is : tried k marks ps ≡ select (triedMarks k (blame ts ps)) ps
+        tried-is = rw (written, tried-select (blame ts ps) rest ps (length-blame ts ps) k) (sym (select-tried k (blame ts ps) ps))
+
+        -- a proposition is not blamed exactly if all before it and the blamed ones after it are contradictory
+        pub blamed-unless : (mark < 2) × (mark ≡ 0 ↔ Contradiction ts (listed ts (tried k marks ps)))
+        blamed-unless =
+            let l = triedMarks k (blame ts ps) in
+            let c = kept-exact ts ps wf l in
+            let o : mark ≡ bitValue (not (keptContradictory ts ps l)) = mark-is ∙ ap bitValue (blame-order ts ps wf k h) in (
+              rw mark-is (bitValue-below (getD (blame ts ps) k false)),
+              rw tried-is (λ e. c .0 (not-zero (keptContradictory ts ps l) (sym o ∙ e)), λ x. o ∙ rw (c .1 x)),
+            )

@@ -34,7 +34,7 @@ module _ (ts : List Term) (ps : List Proposition) where
       go true = length-set kept k false
       go false = refl
 
-  length-blame : length (blame ts ps) ≡ length ps
+  pub length-blame : length (blame ts ps) ≡ length ps
   unfolding blame
   length-blame = length-drop-below (length ps) (replicate (length ps) true) ∙ length-replicate (length ps) true
 

@@ -5,4 +5,6 @@ pub mod Outcome
 pub mod Lengths
 pub mod Examples
 pub mod BlameMinimal
+pub mod BlameOrder
+pub mod Marks
 pub mod Demands

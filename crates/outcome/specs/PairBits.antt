@@ -1,6 +1,6 @@
 -- The table of pair bits: bit i × n + j for the pair (i, j) of n terms, lowest bit of a byte first, unused bits 0.
-use Prim.Native.Nat.{ℕ, zero, suc, _+_, _*_, _/_, _%_, _^_, _<_}
-use mathlib.Core.Path.{_≡_, refl}
+use Prim.Native.Nat.{ℕ, zero, suc, _+_, _*_, _/_, _%_, _^_, _<_, _≤_}
+use mathlib.Core.Path.{_≡_, refl, _∙_}
 use mathlib.Core.Bool.{Bool, true, false, _&&_}
 use mathlib.Core.List.{List}
 use native.Mathlib.Omega.{arith}
@@ -8,7 +8,7 @@ use lib.Arith.{digits-lt, digits-div, digits-mod}
 use lib.Dec.{ltb}
 use lib.ListN.{getD}
 use lib.Pow.{shr-shr}
-use borrow.Author.Tests.{lt-ltb}
+use borrow.Author.Tests.{lt-ltb, le-ltb}
 use Rattle.lists.specs.Tabulate.{tabulate, tabulate-at}
 
 abbrev pub bitValue : Bool → ℕ
@@ -51,14 +51,23 @@ number-bit g (suc k) (suc b) h =
     let q : n / 2 ^ suc b ≡ number (λ c. g (suc c)) k / 2 ^ b = rw (← p, ← e, half) in
     rw q (number-bit (λ c. g (suc c)) k b (omega arith))
 
+-- a bit of the table's bytes
+table-bit : (f : ℕ → ℕ → Bool) (n i : ℕ) → i < 8 * pairBytes n → bitOf (pairBits f n) i ≡ bitValue (pairBit f n i)
+unfolding bitOf pairBits
+table-bit f n i h =
+    let whole : 8 * (i / 8) + i % 8 ≡ i = omega arith in
+    let start : 0 + i / 8 ≡ i / 8 = omega arith in
+    let byte = tabulate-at (λ y. number (λ b. pairBit f n (8 * y + b)) 8) 0 (pairBytes n) (i / 8) 0 (omega arith) in
+    rw (byte, start, number-bit (λ b. pairBit f n (8 * (i / 8) + b)) 8 (i % 8) (omega arith), whole)
+
 -- the bit of a pair is what the table was made from
 pub pair-bit : (f : ℕ → ℕ → Bool) (n i j : ℕ) → i < n → j < n → bitOf (pairBits f n) (i * n + j) ≡ bitValue (f i j)
-unfolding bitOf pairBits pairBit
+unfolding pairBit
 pair-bit f n i j hi hj =
-    let k = i * n + j in
-    let inside : k < n * n = digits-lt hi hj in
-    let whole : 8 * (k / 8) + k % 8 ≡ k = omega arith in
-    let g : ℕ → Bool = λ b. ltb (8 * (k / 8) + b) (n * n) && f ((8 * (k / 8) + b) / n) ((8 * (k / 8) + b) % n) in
-    let byte = tabulate-at (λ y. number (λ b. ltb (8 * y + b) (n * n) && f ((8 * y + b) / n) ((8 * y + b) % n)) 8) 0 (pairBytes n) (k / 8) 0 (omega arith) in
-    let start : 0 + k / 8 ≡ k / 8 = omega arith in
-    rw (byte, start, number-bit g 8 (k % 8) (omega arith), whole, lt-ltb k (n * n) inside, digits-div i hj, digits-mod i hj)
+    let inside : i * n + j < n * n = digits-lt hi hj in
+    table-bit f n (i * n + j) (omega arith) ∙ rw (lt-ltb (i * n + j) (n * n) inside, digits-div i hj, digits-mod i hj)
+
+-- a bit that is no pair's is 0
+pub unused-bit : (f : ℕ → ℕ → Bool) (n i : ℕ) → n * n ≤ i → i < 8 * pairBytes n → bitOf (pairBits f n) i ≡ 0
+unfolding pairBit
+unused-bit f n i h g = table-bit f n i g ∙ rw (le-ltb i (n * n) h)

@@ -75,6 +75,9 @@ module _ (text : List ℕ) (C : Rows) (c : Counts) (D : Rows) (read : ReadAs tex
           record { records = R; reads = read-into text C R r; tables = rw (is, cells) }
       go (refused f) r e cells = let z : _≡_ {A = ℕ} 0 1 = cc in absurd (omega arith)
 
+  pub read-sized : Sized most (readTables c D)
+  read-sized = rw (read-leaves .tables) (sized (read-leaves .records) C (accepted-sound text (read-leaves .records) (read-leaves .reads)))
+
   pub read-passes : tablesFault most (readTables c D) ≡ none
   read-passes =
       let R = read-leaves .records in

@@ -3,11 +3,13 @@ use Prim.Native.Nat.{ℕ}
 use mathlib.Core.Path.{_≡_}
 use mathlib.Core.List.{List, []}
 use mathlib.Core.Option.{Option, none, some}
+use lib.ListN.{take}
 use Rattle.types.specs.declared.Fault.{Fault}
 use Rattle.types.specs.declared.Solved.{Solved}
 use Rattle.types.specs.declared.Verdict.{Verdict}
 use Rattle.types.specs.declared.Verdict.the-variants.{Satisfiable, Contradiction}
 use Rattle.rules.specs.Terms.{Term, Proposition, Comparison}
+use Rattle.outcome.specs.PairBits.{pairBytes}
 use Rattle.outcome.specs.Outcome.{Outcome, outcome}
 use Rattle.outcome.specs.Lengths.{Lengths, outcome-lengths}
 use Rattle.tables.specs.Limits.{most}
@@ -53,6 +55,17 @@ left (some f) T M = M
 pub record Answered (T : Tables) (M N : Memory) (result : Solved) : Type 0 where
   pub returns : result ≡ returned (callFault T M) T
   pub leaves : N ≡ left (callFault T M) T M
+
+-- the cells that the tables' counts need, as an outcome
+abbrev pub used : Tables → Verdict → Memory → Outcome
+used T v N = record {
+  verdict = v;
+  representatives = take (T .terms .count) (N .representatives);
+  offsets = take (T .terms .count) (N .offsets);
+  marks = take (T .propositions .count) (N .marks);
+  pairs = take (pairBytes (T .terms .count)) (N .pairs);
+  answers = take (T .questions .count) (N .answers);
+}
 
 -- tables without questions
 abbrev pub unasked : ℕ → List Row → ℕ → List Row → Tables

@@ -1,16 +1,18 @@
 -- Demands 2 and 3 of what `solve` returns and leaves, and of what `verdict` returns.
-use Prim.Native.Nat.{ℕ, _+_, _*_, _/_, _<_}
+use Prim.Native.Nat.{ℕ, _+_, _*_, _-_, _/_, _<_, _≤_}
 use mathlib.Core.Path.{_≡_, refl, sym, _∙_, ap}
-use mathlib.Core.Logic.{_↔_}
+use mathlib.Core.Logic.{_↔_, _⊎_, inl, inr}
 use mathlib.Core.Bool.{Bool, true, false}
 use mathlib.Core.List.{List}
-use mathlib.Core.Option.{none}
+use mathlib.Core.Option.{Option, none, some}
 use native.Mathlib.Omega.{arith}
 use lib.Arith.{digits-lt}
-use lib.IntN.{pos}
-use lib.ListN.{length, getD}
+use lib.IntN.{ℤ, pos}
+use lib.ListN.{length, getD, set, drop}
+use Rattle.integers.specs.Within.{Within}
 use Rattle.lists.specs.Items.{Item, item-below}
-use Rattle.lists.specs.Overwrite.{overwrite, overwritten}
+use Rattle.lists.specs.Overwrite.{overwrite, overwritten, take-overwrite, overwrite-keeps}
+use Rattle.types.specs.declared.Fault.{Fault}
 use Rattle.types.specs.declared.Solved.{Solved}
 use Rattle.types.specs.declared.Verdict.{Verdict}
 use Rattle.types.specs.declared.Answer.{Answer}
@@ -18,22 +20,25 @@ use Rattle.types.specs.Numbers.{answerNumber}
 use Rattle.rules.specs.Terms.{Term, Proposition, Comparison, listed, WellFormed}
 use Rattle.rules.specs.Rules.{Equal, Different, Contradiction}
 use Rattle.rules.specs.Assignments.{Placement, Holds, Differs, Assignment}
-use Rattle.closure.specs.Facts.{facts}
+use Rattle.rules.specs.Soundness.{equal-holds, no-contradiction}
+use Rattle.closure.specs.Facts.{facts, lists}
+use Rattle.closure.specs.Distance.{largest-distance}
 use Rattle.closure.specs.Verdict.{contradictory}
-use Rattle.outcome.specs.PairBits.{bitOf}
+use Rattle.outcome.specs.PairBits.{bitOf, pairBytes}
+use Rattle.outcome.specs.Marks.{marked, tried}
 use Rattle.outcome.specs.Outcome.{Outcome, outcome}
 use Rattle.outcome.specs.Lengths.{Lengths, outcome-lengths}
 use Rattle.outcome.specs.Demands as outcomes
-use Rattle.tables.specs.Limits.{most}
+use Rattle.tables.specs.Limits.{most, offsetLimit}
 use Rattle.tables.specs.Rows.{termAt, propositionAt, questionAt}
 use Rattle.tables.specs.RefusalLaws.{orElse-none}
 use Rattle.tables.specs.TermTable.{length-terms-from}
-use Rattle.tables.specs.PropositionTable.{well-formed-from}
-use Rattle.tables.specs.QuestionTable.{question-sides}
+use Rattle.tables.specs.PropositionTable.{well-formed-from, bounded-from, length-propositions-from}
+use Rattle.tables.specs.QuestionTable.{question-sides, length-questions-from}
 use Rattle.tables.specs.TableFaults as faults
 use Rattle.tables.specs.TableFaults.{Tables, sizesFault, recordsFault, tablesFault, Accepted, unrefused}
-use Rattle.tables.specs.Memory.{Memory, callFault, EnoughFor, no-memory-fault, passed, memoryWith}
-use Rattle.solver.specs.Call.{termsOf, propositionsOf, questionsOf, run, solvedBy, returned, Answered, unasked, verdictOf}
+use Rattle.tables.specs.Memory.{Memory, callFault, EnoughFor, Beyond, no-memory-fault, passed, memoryWith}
+use Rattle.solver.specs.Call.{termsOf, propositionsOf, questionsOf, run, run-lengths, used, solvedBy, returned, Answered, unasked, verdictOf}
 use Rattle.solver.specs.Verdict.{verdict-when}
 
 -- the set that accepted tables hold is well formed
@@ -52,6 +57,25 @@ contradiction-returned T r is = (λ e. go (run T .verdict) refl e, λ e. is ∙ 
     go : (v : Verdict) → run T .verdict ≡ v → r ≡ Solved.Contradiction → v ≡ Verdict.Contradiction
     go Verdict.Contradiction v e = refl
     go Verdict.Satisfiable v e = let s = is ∙ ap solvedBy v in let z : _≡_ {A = ℕ} 0 1 = cc in absurd (omega arith)
+
+solved-same : (v w : Verdict) → solvedBy v ≡ solvedBy w → v ≡ w
+solved-same Verdict.Satisfiable Verdict.Satisfiable e = refl
+solved-same Verdict.Contradiction Verdict.Contradiction e = refl
+solved-same Verdict.Satisfiable Verdict.Contradiction e = cc
+solved-same Verdict.Contradiction Verdict.Satisfiable e = cc
+
+solved-either : (v : Verdict) → (solvedBy v ≡ Solved.Satisfiable) ⊎ (solvedBy v ≡ Solved.Contradiction)
+solved-either Verdict.Satisfiable = inl refl
+solved-either Verdict.Contradiction = inr refl
+
+-- what a call returns is a refusal exactly where there is a fault
+returned-refused : (o : Option Fault) (T : Tables) (f : Fault) → returned o T ≡ Solved.Refused f ↔ (o ≡ some f)
+returned-refused none T f = (λ e. go (run T .verdict) e, λ e. let z : _≡_ {A = ℕ} 0 1 = cc in absurd (omega arith))
+  where
+    go : (v : Verdict) → solvedBy v ≡ Solved.Refused f → none ≡ some f
+    go Verdict.Satisfiable e = let z : _≡_ {A = ℕ} 0 1 = cc in absurd (omega arith)
+    go Verdict.Contradiction e = let z : _≡_ {A = ℕ} 0 1 = cc in absurd (omega arith)
+returned-refused (some g) T f = (λ e. let h : g ≡ f = cc in ap some h, λ e. let h : g ≡ f = cc in ap Solved.Refused h)
 
 -- An accepted call of `solve` that is answered as promised: the result r, and the lent memory N afterwards.
 module _ (T : Tables) (M N : Memory) (r : Solved) (A : Answered T M N r) (accepted : callFault T M ≡ none) where
@@ -90,13 +114,85 @@ module _ (T : Tables) (M N : Memory) (r : Solved) (A : Answered T M N r) (accept
   lengths : Lengths ts ps qs O
   lengths = outcome-lengths ts ps qs
 
-  answers-left : N .answers ≡ overwrite (O .answers) (M .answers)
+  representatives-left : N .representatives ≡ overwrite (O .representatives) (M .representatives)
   unfolding memoryWith
-  answers-left = ap (λ (m : Memory). m .answers) left-is
+  representatives-left = ap (λ (m : Memory). m .representatives) left-is
+
+  offsets-left : N .offsets ≡ overwrite (O .offsets) (M .offsets)
+  unfolding memoryWith
+  offsets-left = ap (λ (m : Memory). m .offsets) left-is
+
+  marks-left : N .marks ≡ overwrite (O .marks) (M .marks)
+  unfolding memoryWith
+  marks-left = ap (λ (m : Memory). m .marks) left-is
 
   pairs-left : N .pairs ≡ overwrite (O .pairs) (M .pairs)
   unfolding memoryWith
   pairs-left = ap (λ (m : Memory). m .pairs) left-is
+
+  answers-left : N .answers ≡ overwrite (O .answers) (M .answers)
+  unfolding memoryWith
+  answers-left = ap (λ (m : Memory). m .answers) left-is
+
+  abbrev representative : ℕ → ℕ
+  representative t = getD (N .representatives) t 0
+
+  abbrev offset : ℕ → ℤ
+  offset t = getD (N .offsets) t (pos 0)
+
+  label-is : (t : ℕ) → t < length ts → (representative t ≡ getD (O .representatives) t 0) × (offset t ≡ getD (O .offsets) t (pos 0))
+  label-is t h = (
+    rw representatives-left (overwritten (O .representatives) (M .representatives) t 0 (omega (arith, lengths .representatives))),
+    rw offsets-left (overwritten (O .offsets) (M .offsets) t (pos 0) (omega (arith, lengths .offsets))),
+  )
+
+  mark-is : (k : ℕ) → k < length ps → getD (N .marks) k 0 ≡ getD (O .marks) k 0
+  mark-is k h = rw marks-left (overwritten (O .marks) (M .marks) k 0 (omega (arith, lengths .marks)))
+
+  bit-is : (i : ℕ) → i < 8 * pairBytes (length ts) → bitOf (N .pairs) i ≡ bitOf (O .pairs) i
+  unfolding bitOf
+  bit-is i h = let g : i / 8 < length (O .pairs) = omega (arith, lengths .pairs) in rw (pairs-left, overwritten (O .pairs) (M .pairs) (i / 8) 0 g)
+
+  answer-is : (k : ℕ) → k < length qs → getD (N .answers) k 0 ≡ getD (O .answers) k 0
+  answer-is k h = rw answers-left (overwritten (O .answers) (M .answers) k 0 (omega (arith, lengths .answers)))
+
+  -- the cells that the set needs hold its outcome
+  pub used-run : (v : Verdict) → r ≡ solvedBy v → used T v N ≡ run T
+  used-run v e =
+      let l = run-lengths T in
+      let n = length-terms-from (T .terms .count) (termAt (T .terms .rows)) in
+      let m = length-propositions-from (T .propositions .count) (propositionAt (T .propositions .rows)) in
+      let q = length-questions-from (T .questions .count) (questionAt (T .questions .rows)) in
+      let same : v ≡ run T .verdict = solved-same v (run T .verdict) (sym e ∙ rw accepted at (A .returns)) in
+      rw (
+        same,
+        representatives-left,
+        offsets-left,
+        marks-left,
+        pairs-left,
+        answers-left,
+        ← run-is,
+        take-overwrite (run T .representatives) (M .representatives) (T .terms .count) (l .representatives ∙ n),
+        take-overwrite (run T .offsets) (M .offsets) (T .terms .count) (l .offsets ∙ n),
+        take-overwrite (run T .marks) (M .marks) (T .propositions .count) (l .marks ∙ m),
+        take-overwrite (run T .pairs) (M .pairs) (pairBytes (T .terms .count)) (l .pairs ∙ ap pairBytes n),
+        take-overwrite (run T .answers) (M .answers) (T .questions .count) (l .answers ∙ q),
+      )
+
+  -- the others are as they were
+  pub beyond-kept : Beyond T M N
+  beyond-kept =
+      let n = length-terms-from (T .terms .count) (termAt (T .terms .rows)) in
+      let m = length-propositions-from (T .propositions .count) (propositionAt (T .propositions .rows)) in
+      let q = length-questions-from (T .questions .count) (questionAt (T .questions .rows)) in
+      let E = passed T M accepted .enough in
+      record {
+        representatives = rw representatives-left (overwrite-keeps (O .representatives) (M .representatives) _ (lengths .representatives ∙ n) (E .representatives));
+        offsets = rw offsets-left (overwrite-keeps (O .offsets) (M .offsets) _ (lengths .offsets ∙ n) (E .offsets));
+        marks = rw marks-left (overwrite-keeps (O .marks) (M .marks) _ (lengths .marks ∙ m) (E .marks));
+        pairs = rw pairs-left (overwrite-keeps (O .pairs) (M .pairs) _ (lengths .pairs ∙ ap pairBytes n) (E .pairs));
+        answers = rw answers-left (overwrite-keeps (O .answers) (M .answers) _ (lengths .answers ∙ q) (E .answers));
+      }
 
   -- demand 2: contradiction exactly where one of the three conditions is derived
   pub contradiction-derived : r ≡ Solved.Contradiction ↔ Contradiction ts (listed ts ps)
@@ -111,6 +207,30 @@ module _ (T : Tables) (M N : Memory) (r : Solved) (A : Answered T M N r) (accept
       (λ e. v .0 (contradiction-iff .0 e), λ c. contradiction-iff .1 (v .1 c))
 
   module _ (sat : r ≡ Solved.Satisfiable) where
+    -- demand 2: a term's representative is the lowest-numbered term of its class, and its offset is that from it
+    pub representative-derived : (t : ℕ) → t < length ts → Equal ts (listed ts ps) t (offset t) (representative t) × ((u : ℕ) (z : ℤ) → u < length ts → Equal ts (listed ts ps) t z u → representative t ≤ u)
+    representative-derived t h = rw (label-is t h .0, label-is t h .1) (outcomes.representative-lowest ts ps qs wf (satisfiable-verdict sat) t h)
+
+    -- demand 3: and so it is in every assignment
+    pub representative-assignments : (t : ℕ) → t < length ts → (P : Placement) → Assignment ts (listed ts ps) P → Holds P t (offset t) (representative t)
+    representative-assignments t h P M = equal-holds ts (listed ts ps) P (M .respects) (representative-derived t h .0)
+
+    -- nothing is blamed
+    pub unblamed : (k : ℕ) → k < length ps → getD (N .marks) k 0 ≡ 0
+    unblamed k h = mark-is k h ∙ outcomes.unblamed ts ps qs wf (satisfiable-verdict sat) k h
+
+    -- a bit of the pair bytes that is no pair's is 0
+    pub unused-zero : (i : ℕ) → length ts * length ts ≤ i → i < 8 * pairBytes (length ts) → bitOf (N .pairs) i ≡ 0
+    unused-zero i h g = bit-is i g ∙ outcomes.unused-zero ts ps qs wf (satisfiable-verdict sat) i h g
+
+    -- equal terms are at most 511 × 2,147,483,648 apart
+    pub distance : {t1 t2 : ℕ} {z : ℤ} → t1 < length ts → t2 < length ts → Equal ts (listed ts ps) t1 z t2 → Within ((most - 1) * offsetLimit) z
+    distance h1 h2 e =
+        let p = passed T M accepted in
+        let B = bounded-from (T .terms .count) (T .propositions .count) (propositionAt (T .propositions .rows)) (p .accepted .propositions) ts in
+        let n = length-terms-from (T .terms .count) (termAt (T .terms .rows)) in
+        largest-distance ts (listed ts ps) wf (facts ts ps) (lists ts ps) offsetLimit (most - 1) B (omega (arith, n, p .sized .few-terms)) (outcomes.no-contra ts ps qs wf (satisfiable-verdict sat)) h1 h2 e
+
     module _ (k : ℕ) (q : Comparison) (i : Item qs k q) where
       abbrev given : ℕ
       given = getD (N .answers) k 0
@@ -121,46 +241,84 @@ module _ (T : Tables) (M N : Memory) (r : Solved) (A : Answered T M N r) (accept
           let n = length-terms-from (T .terms .count) (termAt (T .terms .rows)) in
           (omega (arith, b .0, n), omega (arith, b .1, n))
 
-      answer-is : given ≡ getD (O .answers) k 0
-      answer-is = rw answers-left (overwritten (O .answers) (M .answers) k 0 (omega (arith, item-below qs k i, lengths .answers)))
+      given-is : given ≡ getD (O .answers) k 0
+      given-is = answer-is k (item-below qs k i)
 
       -- demand 2: "equal" exactly where E0 to E4 derive it
       pub equal-derived : given ≡ answerNumber Answer.Equal ↔ Equal ts (listed ts ps) (q .left) (q .offset) (q .right)
-      equal-derived = rw answer-is (outcomes.answer-equal ts ps qs wf (satisfiable-verdict sat) k q i (sides .0) (sides .1))
+      equal-derived = rw given-is (outcomes.answer-equal ts ps qs wf (satisfiable-verdict sat) k q i (sides .0) (sides .1))
 
       -- "different" exactly where the rules for it derive it
       pub different-derived : given ≡ answerNumber Answer.Different ↔ Different ts (listed ts ps) (q .left) (q .offset) (q .right)
-      different-derived = rw answer-is (outcomes.answer-different ts ps qs wf (satisfiable-verdict sat) k q i (sides .0) (sides .1))
+      different-derived = rw given-is (outcomes.answer-different ts ps qs wf (satisfiable-verdict sat) k q i (sides .0) (sides .1))
 
       -- else "neither"
       pub neither-derived : given ≡ answerNumber Answer.Neither ↔ ((Equal ts (listed ts ps) (q .left) (q .offset) (q .right) → ⊥) × (Different ts (listed ts ps) (q .left) (q .offset) (q .right) → ⊥))
-      neither-derived = rw answer-is (outcomes.answer-neither ts ps qs wf (satisfiable-verdict sat) k q i (sides .0) (sides .1))
+      neither-derived = rw given-is (outcomes.answer-neither ts ps qs wf (satisfiable-verdict sat) k q i (sides .0) (sides .1))
 
       -- demand 3: "equal" exactly where the question holds in every assignment
       pub equal-assignments : given ≡ answerNumber Answer.Equal ↔ ((P : Placement) → Assignment ts (listed ts ps) P → Holds P (q .left) (q .offset) (q .right))
-      equal-assignments = rw answer-is (outcomes.equal-assignments ts ps qs wf (satisfiable-verdict sat) k q i (sides .0) (sides .1))
+      equal-assignments = rw given-is (outcomes.equal-assignments ts ps qs wf (satisfiable-verdict sat) k q i (sides .0) (sides .1))
 
       -- "different" differs in every assignment
       pub different-assignments : given ≡ answerNumber Answer.Different → (P : Placement) → Assignment ts (listed ts ps) P → Differs P (q .left) (q .offset) (q .right)
-      different-assignments e = outcomes.different-assignments ts ps qs wf (satisfiable-verdict sat) k q i (sides .0) (sides .1) (sym answer-is ∙ e)
+      different-assignments e = outcomes.different-assignments ts ps qs wf (satisfiable-verdict sat) k q i (sides .0) (sides .1) (sym given-is ∙ e)
 
     module _ (i j : ℕ) (hi : i < length ts) (hj : j < length ts) where
       abbrev bit : ℕ
       bit = bitOf (N .pairs) (i * length ts + j)
 
-      bit-is : bit ≡ bitOf (O .pairs) (i * length ts + j)
-      unfolding bitOf
-      bit-is =
-          let h : (i * length ts + j) / 8 < length (O .pairs) = omega (arith, digits-lt hi hj, lengths .pairs) in
-          rw (pairs-left, overwritten (O .pairs) (M .pairs) ((i * length ts + j) / 8) 0 h)
+      pair-is : bit ≡ bitOf (O .pairs) (i * length ts + j)
+      pair-is = bit-is (i * length ts + j) (omega (arith, digits-lt hi hj))
 
       -- demand 2: a pair bit is 1 exactly where term i is different from 0 + term j
       pub pair-derived : bit ≡ 1 ↔ Different ts (listed ts ps) i (pos 0) j
-      pair-derived = rw bit-is (outcomes.pair-different ts ps qs wf (satisfiable-verdict sat) i j hi hj)
+      pair-derived = rw pair-is (outcomes.pair-different ts ps qs wf (satisfiable-verdict sat) i j hi hj)
 
       -- demand 3: a pair whose bit is 1 differs in every assignment
       pub pair-assignments : bit ≡ 1 → (P : Placement) → Assignment ts (listed ts ps) P → Differs P i (pos 0) j
-      pair-assignments e = outcomes.pair-assignments ts ps qs wf (satisfiable-verdict sat) i j hi hj (sym bit-is ∙ e)
+      pair-assignments e = outcomes.pair-assignments ts ps qs wf (satisfiable-verdict sat) i j hi hj (sym pair-is ∙ e)
+
+  module _ (con : r ≡ Solved.Contradiction) where
+    is-con : O .verdict ≡ Verdict.Contradiction
+    is-con = contradiction-iff .0 con
+
+    -- each term is its own representative at offset 0, no pair bit is set, each answer is 3
+    pub own-representative : (t : ℕ) → t < length ts → (representative t ≡ t) × (offset t ≡ pos 0)
+    own-representative t h = rw (label-is t h .0, label-is t h .1) (outcomes.own-representative ts ps qs wf is-con t h)
+
+    pub pairs-zero : (i : ℕ) → i < 8 * pairBytes (length ts) → bitOf (N .pairs) i ≡ 0
+    pairs-zero i h = bit-is i h ∙ outcomes.pairs-zero ts ps qs wf is-con i
+
+    pub answers-contradictory : (k : ℕ) → k < length qs → getD (N .answers) k 0 ≡ answerNumber Answer.Contradictory
+    answers-contradictory k h = answer-is k h ∙ outcomes.answers-contradictory ts ps qs wf is-con k h
+
+    -- the blamed propositions are contradictory
+    pub blamed-contradictory : Contradiction ts (listed ts (marked (N .marks) ps))
+    blamed-contradictory = rw marks-left (outcomes.blamed-contradictory ts ps qs wf is-con (drop (length (O .marks)) (M .marks)))
+
+    pub blamed-assignments : (P : Placement) → Assignment ts (listed ts (marked (N .marks) ps)) P → ⊥
+    blamed-assignments P A = no-contradiction ts (listed ts (marked (N .marks) ps)) P A blamed-contradictory
+
+    module _ (k : ℕ) (h : k < length ps) where
+      -- without any one of them they have an assignment
+      pub blamed-minimal : getD (N .marks) k 0 ≡ 1 → (P : Placement) × Assignment ts (listed ts (marked (set (N .marks) k 0) ps)) P
+      blamed-minimal = rw marks-left (outcomes.blamed-minimal ts ps qs wf is-con (drop (length (O .marks)) (M .marks)) k h)
+
+      -- a mark is 0 or 1, and 0 exactly if all before it and the blamed ones after it are contradictory
+      pub blamed-unless : (getD (N .marks) k 0 < 2) × (getD (N .marks) k 0 ≡ 0 ↔ Contradiction ts (listed ts (tried k (N .marks) ps)))
+      blamed-unless = rw marks-left (outcomes.blamed-unless ts ps qs wf is-con (drop (length (O .marks)) (M .marks)) k h)
+
+-- a call is refused exactly where it has a fault, and then leaves the memory as it was
+module _ (T : Tables) (M N : Memory) (r : Solved) (A : Answered T M N r) where
+  pub refused-exactly : (f : Fault) → r ≡ Solved.Refused f ↔ (callFault T M ≡ some f)
+  refused-exactly f = rw (A .returns) (returned-refused (callFault T M) T f)
+
+  pub refused-unchanged : (f : Fault) → r ≡ Solved.Refused f → N ≡ M
+  refused-unchanged f e = let c = refused-exactly f .0 e in rw c at (A .leaves)
+
+  pub answered-else : callFault T M ≡ none → (r ≡ Solved.Satisfiable) ⊎ (r ≡ Solved.Contradiction)
+  answered-else e = rw (A .returns, e) (solved-either (run T .verdict))
 
 -- `solve` returns what `verdict` returns for the tables, accepted or refused, if the lent memory is enough
 pub solve-agrees : (T : Tables) (M N : Memory) (r : Solved) → Answered T M N r → EnoughFor T M → r ≡ verdictOf T
@@ -193,6 +351,16 @@ module _ (T : Tables) (M N : Memory) (r : Solved) (A : Answered T M N r) (accept
   pub solve-agrees-unasked : r ≡ verdictOf U
   unfolding verdictOf
   solve-agrees-unasked = (rw accepted at (A .returns)) ∙ rw no-fault (same (contradictory (termsOf T) (facts (termsOf T) (propositionsOf T))) refl)
+
+-- `verdict` refuses tables exactly where they have a fault, else they are satisfiable or contradictory
+module _ (T : Tables) where
+  pub verdict-refused-exactly : (f : Fault) → verdictOf T ≡ Solved.Refused f ↔ (tablesFault most T ≡ some f)
+  unfolding verdictOf
+  verdict-refused-exactly f = returned-refused (tablesFault most T) T f
+
+  pub verdict-else : tablesFault most T ≡ none → (verdictOf T ≡ Solved.Satisfiable) ⊎ (verdictOf T ≡ Solved.Contradiction)
+  unfolding verdictOf
+  verdict-else e = rw e (solved-either (run T .verdict))
 
 -- demands 2 and 3 of what `verdict` returns, for accepted tables
 module _ (T : Tables) (r : Solved) (is : r ≡ verdictOf T) (accepted : tablesFault most T ≡ none) where

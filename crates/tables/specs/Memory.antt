@@ -9,14 +9,14 @@ use lib.IntN.{ℤ}
 use lib.ListN.{length}
 use borrow.Author.Tests.{ltb-false, le-ltb}
 use Rattle.lists.specs.Booleans.{or-false, both-false}
-use Rattle.lists.specs.Overwrite.{overwrite}
+use Rattle.lists.specs.Overwrite.{overwrite, Keeps}
 use Rattle.types.specs.declared.Refusal.the-variants.{TooShort}
 use Rattle.outcome.specs.PairBits.{pairBytes}
 use Rattle.outcome.specs.Outcome.{Outcome}
 use Rattle.tables.specs.Limits.{most}
 use Rattle.tables.specs.Refusals.{Fault, orElse, faultIf}
 use Rattle.tables.specs.RefusalLaws.{orElse-none, faultIf-none, both-none, not-faulty}
-use Rattle.tables.specs.TableFaults.{Tables, sizesFault, recordsFault, Sized, sized, Accepted, accepted, sizes-pass, records-pass}
+use Rattle.tables.specs.TableFaults.{Tables, sizesFault, recordsFault, tablesFault, Sized, sized, Accepted, accepted, sizes-pass, records-pass}
 
 pub record Memory : Type 0 where
   pub representatives : List ℕ
@@ -85,6 +85,14 @@ no-memory-fault T M E =
     (both-false _ _ (le-ltb _ _ (E .offsets))
     (both-false _ _ (le-ltb _ _ (E .marks)) (both-false _ _ (le-ltb _ _ (E .pairs)) (le-ltb _ _ (E .answers))))))
 
+-- the memory N after a call has M's lengths, and its cells beyond those that the counts need
+pub record Beyond (T : Tables) (M N : Memory) : Type 0 where
+  pub representatives : Keeps (T .terms .count) (M .representatives) (N .representatives)
+  pub offsets : Keeps (T .terms .count) (M .offsets) (N .offsets)
+  pub marks : Keeps (T .propositions .count) (M .marks) (N .marks)
+  pub pairs : Keeps (pairBytes (T .terms .count)) (M .pairs) (N .pairs)
+  pub answers : Keeps (T .questions .count) (M .answers) (N .answers)
+
 -- a call is accepted exactly when it passes each test
 pub record Passed (T : Tables) (M : Memory) : Type 0 where
   pub sized : Sized most T
@@ -102,6 +110,13 @@ pub call-unrefused : (T : Tables) (M : Memory) → Passed T M → callFault T M 
 unfolding callFault
 call-unrefused T M p =
     both-none _ _ (sizes-pass most T (p .sized)) (both-none _ _ (no-memory-fault T M (p .enough)) (records-pass T (p .accepted)))
+
+-- tables that are not refused, with enough memory
+pub call-accepted : (T : Tables) (M : Memory) → tablesFault most T ≡ none → EnoughFor T M → callFault T M ≡ none
+unfolding callFault tablesFault
+call-accepted T M e enough =
+    let a = orElse-none (sizesFault most T) (recordsFault T) e in
+    both-none _ _ (a .0) (both-none _ _ (no-memory-fault T M enough) (a .1))
 
 -- the memory with an outcome in its first cells
 unfoldable pub memoryWith : Outcome → Memory → Memory

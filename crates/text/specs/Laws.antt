@@ -1,12 +1,14 @@
 -- The digits are the sixteen of paper 01; an accepted line holds a frame without fault; a refusal's place is the number of a line.
-use Prim.Native.Nat.{ℕ, suc, _+_, _-_, _<_, _≤_}
+use Prim.Native.Nat.{ℕ, zero, suc, _+_, _-_, _<_, _≤_}
 use mathlib.Core.Path.{_≡_, refl, sym, ap}
 use mathlib.Core.Bool.{Bool, true, false, not, _&&_, _||_}
 use mathlib.Core.List.{List, [], _∷_}
 use mathlib.Core.Option.{Option, none, some}
 use native.Mathlib.Omega.{arith}
-use lib.Dec.{leb, ltb}
-use lib.ListN.{length}
+use lib.Dec.{eqb, leb, ltb}
+use lib.ListN.{length, getD, take, drop}
+use lib.Seq.{drop-cons}
+use Rattle.lists.specs.Items.{Item, not-in-empty, getD-item}
 use borrow.Author.Tests.{leb-true, leb-false, le-leb, lt-leb, ltb-true, ltb-false, lt-ltb, le-ltb}
 use Rattle.lists.specs.Search.{choose}
 use Rattle.lists.specs.Booleans.{and-true}
@@ -15,9 +17,9 @@ use Rattle.types.specs.declared.Refusal.the-variants.{TooManyTerms, TooManyProp
 use Rattle.tables.specs.Limits.{most}
 use Rattle.tables.specs.Refusals.{Fault, orElse, refuseIf, termNameFault, propositionNameFault, questionNameFault}
 use Rattle.tables.specs.RefusalLaws.{orElse-none, refuseIf-none}
-use Rattle.text.specs.Lines.{Line, digit, digitOf}
+use Rattle.text.specs.Lines.{Line, lf, before, linesOf, digit, digitOf}
 use Rattle.text.specs.Frames.{Frame, term, proposition, question, frameOf}
-use Rattle.text.specs.Reading.{Records, refused, isEmpty, full, frameFault, withFrame, Step, refuse, go-on, stepFault, stepFrame, step, after, readLines}
+use Rattle.text.specs.Reading.{Records, nothing, reading, lineStart, partOf, refused, isEmpty, full, frameFault, withFrame, Step, refuse, go-on, stepFault, stepFrame, step, after, readLines}
 
 -- each digit's value
 pub digit-value : (v : ℕ) → v < 16 → digit (digitOf v) ≡ some v
@@ -122,3 +124,37 @@ refused-line k R (l ∷ ls) f e = go (step R l) e (λ S h. refused-line (suc k) 
     go : (s : Step) → after k s (λ S. readLines (suc k) S ls) ≡ refused f → ((S : Records) → readLines (suc k) S ls ≡ refused f → (suc k ≤ f .place) × (f .place < suc k + length ls)) → (k ≤ f .place) × (f .place < k + suc (length ls))
     go (refuse r) h ih = let is : record { refusal = r; place = k } ≡ f = cc in let p = ap (λ (x : Fault). x .place) is in (omega arith, omega arith)
     go (go-on S) h ih = let r = ih S h in (omega arith, omega arith)
+
+-- a line's characters stand where it starts
+line-characters : (text : List ℕ) (k : ℕ) (l : Line) → Item (linesOf text) k l → take (length (l .characters)) (drop (lineStart (linesOf text) k) text) ≡ l .characters
+unfolding linesOf lineStart
+line-characters [] k l i = absurd (not-in-empty (k, i))
+line-characters (c ∷ text) k l i = go (eqb c lf) (linesOf text) (line-characters text) k i
+  where
+    -- of the lines of the rest
+    Rest : List Line → Type 0
+    Rest ls = (j : ℕ) (m : Line) → Item ls j m → take (length (m .characters)) (drop (lineStart ls j) text) ≡ m .characters
+
+    joined : (ls : List Line) → Rest ls → (j : ℕ) → Item (before c ls) j l → take (length (l .characters)) (drop (lineStart (before c ls) j) (c ∷ text)) ≡ l .characters
+    joined [] rest zero h = let is : record { characters = c ∷ []; ended = false } ≡ l = cc in rw (← is)
+    joined [] rest (suc j) h = absurd (not-in-empty (j, h))
+    joined (m ∷ ls) rest zero h = let is : record { characters = c ∷ m .characters; ended = m .ended } ≡ l = cc in rw (← is) (ap (λ r. c ∷ r) (rest zero m refl))
+    joined (m ∷ ls) rest (suc j) h =
+        let e : suc (length (m .characters)) + 1 + lineStart ls j ≡ suc (length (m .characters) + 1 + lineStart ls j) = omega arith in
+        rw e (rest (suc j) l h)
+
+    go : (b : Bool) (ls : List Line) → Rest ls → (j : ℕ) → Item (choose b (record { characters = []; ended = true } ∷ ls) (before c ls)) j l → take (length (l .characters)) (drop (lineStart (choose b (record { characters = []; ended = true } ∷ ls) (before c ls)) j) (c ∷ text)) ≡ l .characters
+    go true ls rest zero h = let a : record { characters = []; ended = true } ≡ l = cc in rw (← a)
+    go true ls rest (suc j) h = let e : 1 + lineStart ls j ≡ suc (lineStart ls j) = omega arith in rw e (rest j l h)
+    go false ls rest j h = joined ls rest j h
+
+-- the part of a refused text that is handed back holds the characters of the faulty line
+pub part-characters : (text : List ℕ) (f : Fault) → reading text ≡ refused f → (l : Line) × Item (linesOf text) (f .place) l × (let p = partOf text (refused f) in take (p .size) (drop (p .start) text) ≡ l .characters)
+unfolding reading
+part-characters text f e =
+    let d : Line = record { characters = []; ended = true } in
+    let h : f .place < length (linesOf text) = let r = refused-line 0 nothing (linesOf text) f e .1 in omega arith in
+    let i = getD-item (linesOf text) (f .place) d h in
+    let l = getD (linesOf text) (f .place) d in
+    let s : drop (f .place) (linesOf text) ≡ l ∷ drop (suc (f .place)) (linesOf text) = drop-cons (linesOf text) (f .place) d h in
+    (l, i, rw s (line-characters text (f .place) l i))

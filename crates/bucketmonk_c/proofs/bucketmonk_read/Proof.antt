@@ -1,14 +1,12 @@
 -- `bucketmonk_c::bucketmonk_read` meets its contract.
-use mathlib.Core.Path.{_∙_, ap}
-use Rattle.numbers.specs.Numbers.{readNumber}
 use borrow.Author.Needs.{needs}
 use Rattle.bucketmonk_c.proofs.bucketmonk_read.Statement.{statement}
 use Rattle.bucketmonk_c.proofs.bucketmonk_read.Tie as tie
 
 returns : tie.Need-returns
 returns c =
-    let a = c .before .before .before .before .read .ensures in
-    record { result = c .read-number .ensures ∙ ap readNumber (a .result); cells = a .cells }
+    let s = c .before .before .before .before .read in
+    record { result = s .result; number = c .read-number .ensures; read = s .ensures }
 
 pub bucketmonk-read-spec : {M : Type 1} → statement M
 bucketmonk-read-spec =

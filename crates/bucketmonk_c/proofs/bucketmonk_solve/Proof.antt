@@ -1,14 +1,12 @@
 -- `bucketmonk_c::bucketmonk_solve` meets its contract.
-use mathlib.Core.Path.{_∙_, ap}
-use Rattle.numbers.specs.Numbers.{solvedNumber}
 use borrow.Author.Needs.{needs}
 use Rattle.bucketmonk_c.proofs.bucketmonk_solve.Statement.{statement}
 use Rattle.bucketmonk_c.proofs.bucketmonk_solve.Tie as tie
 
 returns : tie.Need-returns
 returns c =
-    let a = c .before .before .before .before .before .before .before .before .before .before .solve .ensures in
-    (c .solved-number .ensures ∙ ap solvedNumber (a .returns), a .leaves)
+    let s = c .before .before .before .before .before .before .before .before .before .before .solve in
+    record { solved = s .result; number = c .solved-number .ensures; answered = s .ensures }
 
 pub bucketmonk-solve-spec : {M : Type 1} → statement M
 bucketmonk-solve-spec =

@@ -1,0 +1,200 @@
+-- All that is promised, in the order of the demands. Each statement stands in full; its proof of one line says where it is proved.
+-- The contract of a function promises for a call
+--   solve          Answered T M N r              tables T, lent memory M before and N after, result r
+--   verdict        r ≡ verdictOf T               tables T without questions, result r
+--   read           ReadAs text C r D             text, lent rows C before and D after, result r
+--   faulty_line    HandedBack text r (faultyPart text t p q)     r a part of the text; room for t, p and q records
+--   write_output   WritesOutput text old n new   text, buffer before and after, n bytes written
+-- and what that says is said here. For C: AnsweredNumber and ReadNumber, with a number for the result.
+pub mod Words
+use Words.*
+use Rattle.closure.specs.Reached as reached
+use Rattle.reader.specs.Facts as reads
+use Rattle.solver.specs.Demands as solver
+use Rattle.driver.specs.Within as written
+use Rattle.driver.specs.Program as program
+use Rattle.bucketmonk_c.specs.Results as numbers
+
+-- Demand 1. Every set of tables gets an answer; a refused call changes nothing; offsets never overflow.
+module _ (T : Tables) (M N : Memory) (r : Solved) (A : Answered T M N r) where
+  -- a call is refused exactly if it has a fault, with the number and the place of the first one
+  solve-refuses : (f : Fault) → r ≡ Solved.Refused f ↔ (callFault T M ≡ some f)
+  solve-refuses = solver.refused-exactly T M N r A
+
+  solve-answers : callFault T M ≡ none → (r ≡ Solved.Satisfiable) ⊎ (r ≡ Solved.Contradiction)
+  solve-answers = solver.answered-else T M N r A
+
+  -- a refused call leaves the memory as it was, any other the cells beyond those that it needs
+  refused-memory : (f : Fault) → r ≡ Solved.Refused f → N ≡ M
+  refused-memory = solver.refused-unchanged T M N r A
+
+  cells-beyond : callFault T M ≡ none → Beyond T M N
+  cells-beyond = solver.beyond-kept T M N r A
+
+-- `verdict` refuses what `solve` refuses, but for the lent memory, and else returns the same
+verdict-answers : (T : Tables) → ((f : Fault) → verdictOf T ≡ Solved.Refused f ↔ (tablesFault most T ≡ some f)) × (tablesFault most T ≡ none → (verdictOf T ≡ Solved.Satisfiable) ⊎ (verdictOf T ≡ Solved.Contradiction))
+verdict-answers T = (solver.verdict-refused-exactly T, solver.verdict-else T)
+
+verdict-same : (T : Tables) (M N : Memory) (r : Solved) → Answered T M N r → EnoughFor T M → r ≡ verdictOf T
+verdict-same = solver.solve-agrees
+
+-- Every text gets an answer.
+module _ (text : List ℕ) (C D : Rows) (r : ReadResult) (A : ReadAs text C r D) where
+  -- 8 where a table has room for less than 512 records; else the text decides
+  read-short : shortRows C ≡ true → r ≡ ReadResult.Refused tableTooShort
+  read-short = reads.short-refused text C D r A
+
+  read-refuses : shortRows C ≡ false → (f : Fault) → r ≡ ReadResult.Refused f ↔ (reading text ≡ refused f)
+  read-refuses = reads.refused-exactly text C D r A
+
+  read-accepts : shortRows C ≡ false → (R : Records) → reading text ≡ accepted R → (r ≡ ReadResult.Accepted (countsOf R)) × (D ≡ rowsWith R C)
+  read-accepts = reads.accepted-rows text C D r A
+
+  refused-rows : (f : Fault) → r ≡ ReadResult.Refused f → D ≡ C
+  refused-rows = reads.refused-unchanged text C D r A
+
+  -- the program writes the refusal, or what `solve` returns and leaves for the rows
+  output-refused : shortRows C ≡ false → (f : Fault) → r ≡ ReadResult.Refused f → output text ≡ refusalFrame f
+  output-refused = program.output-refused text C D r A
+
+  output-accepted : (c : Counts) → r ≡ ReadResult.Accepted c → (M N : Memory) (s : Solved) → Answered (readTables c D) M N s → EnoughFor (readTables c D) M → (v : Verdict) → s ≡ solvedBy v → output text ≡ outcomeFrames (used (readTables c D) v N)
+  output-accepted = program.output-accepted text C D r A
+
+-- `solve` does not refuse the rows of an accepted text
+accepted-passes : (text : List ℕ) (C : Rows) (c : Counts) (D : Rows) → ReadAs text C (ReadResult.Accepted c) D → tablesFault most (readTables c D) ≡ none
+accepted-passes = read-passes
+
+-- the faulty line is handed back; of an accepted text, or without room, the empty part at its start
+faulty-line : (text : List ℕ) (t p q : ℕ) → faultyPart text t p q ≡ choose (short t p q) (record { start = 0; size = 0 }) (partOf text (reading text))
+faulty-line = reads.part-judged
+
+faulty-characters : (text : List ℕ) (f : Fault) → reading text ≡ refused f → (l : Line) × Item (linesOf text) (f .place) l × (let p = partOf text (refused f) in take (p .size) (drop (p .start) text) ≡ l .characters)
+faulty-characters = part-characters
+
+-- the output is written if there is room for the largest one, else nothing; no output is empty or larger; more than the judged bytes do not matter
+output-written : (text old : List ℕ) (n : ℕ) (new : List ℕ) → WritesOutput text old n new → largestOutput ≤ length old → (n ≡ length (output text)) × (new ≡ overwrite (output text) old)
+output-written = written.written-all
+
+output-unwritten : (text old : List ℕ) (n : ℕ) (new : List ℕ) → WritesOutput text old n new → length old < largestOutput → (n ≡ 0) × (new ≡ old)
+output-unwritten = written.written-none
+
+output-length : (text : List ℕ) → (0 < length (output text)) × (length (output text) ≤ largestOutput)
+output-length text = (output-some text, output-size text)
+
+enough-judged : (text : List ℕ) → reading (take judged text) ≡ reading text
+enough-judged = judged-enough
+
+-- The numbers for C tell a refusal and its place, or the counts, exactly.
+solve-number : (T : Tables) (M N : Memory) (r : ℕ) (A : AnsweredNumber T M N r) (f : Fault) → A .solved ≡ Solved.Refused f → Tells r f
+solve-number = numbers.solve-tells
+
+verdict-number : (T : Tables) (f : Fault) → verdictOf T ≡ Solved.Refused f → Tells (solvedNumber (verdictOf T)) f
+verdict-number = numbers.verdict-tells
+
+read-number : (text : List ℕ) (C D : Rows) (r : ℕ) (A : ReadNumber text C r D) (f : Fault) → A .result ≡ ReadResult.Refused f → TellsRead r f
+read-number = numbers.read-tells
+
+read-number-counts : (text : List ℕ) (C D : Rows) (r : ℕ) (A : ReadNumber text C r D) (c : Counts) → A .result ≡ ReadResult.Accepted c → TellsCounts r c
+read-number-counts = numbers.read-tells-counts
+
+-- Demands 2 and 3, of an accepted call.
+module _ (T : Tables) (M N : Memory) (r : Solved) (A : Answered T M N r) (accepts : callFault T M ≡ none) where
+  abbrev ts : List Term
+  ts = termsOf T
+
+  abbrev ps : List Proposition
+  ps = propositionsOf T
+
+  abbrev G : Given
+  G = listed ts ps
+
+  -- Demand 2. A contradiction is answered exactly where the rules derive one.
+  contradiction-derived : r ≡ Solved.Contradiction ↔ Contradiction ts G
+  contradiction-derived = solver.contradiction-derived T M N r A accepts
+
+  module _ (sat : r ≡ Solved.Satisfiable) where
+    -- a term's representative is the lowest-numbered term of its class, and its offset is that from it
+    representative-lowest : (t : ℕ) → t < length ts → Equal ts G t (getD (N .offsets) t (pos 0)) (getD (N .representatives) t 0) × ((u : ℕ) (z : ℤ) → u < length ts → Equal ts G t z u → getD (N .representatives) t 0 ≤ u)
+    representative-lowest = solver.representative-derived T M N r A accepts sat
+
+    marks-zero : (k : ℕ) → k < length ps → getD (N .marks) k 0 ≡ 0
+    marks-zero = solver.unblamed T M N r A accepts sat
+
+    pair-different : (i j : ℕ) → i < length ts → j < length ts → bitOf (N .pairs) (i * length ts + j) ≡ 1 ↔ Different ts G i (pos 0) j
+    pair-different = solver.pair-derived T M N r A accepts sat
+
+    unused-bits-zero : (i : ℕ) → length ts * length ts ≤ i → i < 8 * pairBytes (length ts) → bitOf (N .pairs) i ≡ 0
+    unused-bits-zero = solver.unused-zero T M N r A accepts sat
+
+    module _ (k : ℕ) (q : Comparison) (i : Item (questionsOf T) k q) where
+      answer-equal : getD (N .answers) k 0 ≡ answerNumber Answer.Equal ↔ Equal ts G (q .left) (q .offset) (q .right)
+      answer-equal = solver.equal-derived T M N r A accepts sat k q i
+
+      answer-different : getD (N .answers) k 0 ≡ answerNumber Answer.Different ↔ Different ts G (q .left) (q .offset) (q .right)
+      answer-different = solver.different-derived T M N r A accepts sat k q i
+
+      answer-neither : getD (N .answers) k 0 ≡ answerNumber Answer.Neither ↔ ((Equal ts G (q .left) (q .offset) (q .right) → ⊥) × (Different ts G (q .left) (q .offset) (q .right) → ⊥))
+      answer-neither = solver.neither-derived T M N r A accepts sat k q i
+
+    -- the largest distance between two terms of a class
+    largest-distance : {t1 t2 : ℕ} {z : ℤ} → t1 < length ts → t2 < length ts → Equal ts G t1 z t2 → Within ((most - 1) * offsetLimit) z
+    largest-distance = solver.distance T M N r A accepts sat
+
+  module _ (con : r ≡ Solved.Contradiction) where
+    -- each term is its own representative at offset 0, no pair bit is 1, each answer is 3
+    own-representative : (t : ℕ) → t < length ts → (getD (N .representatives) t 0 ≡ t) × (getD (N .offsets) t (pos 0) ≡ pos 0)
+    own-representative = solver.own-representative T M N r A accepts con
+
+    pairs-zero : (i : ℕ) → i < 8 * pairBytes (length ts) → bitOf (N .pairs) i ≡ 0
+    pairs-zero = solver.pairs-zero T M N r A accepts con
+
+    answers-contradictory : (k : ℕ) → k < length (questionsOf T) → getD (N .answers) k 0 ≡ answerNumber Answer.Contradictory
+    answers-contradictory = solver.answers-contradictory T M N r A accepts con
+
+    -- the blamed propositions are contradictory
+    blamed-contradictory : Contradiction ts (listed ts (marked (N .marks) ps))
+    blamed-contradictory = solver.blamed-contradictory T M N r A accepts con
+
+    -- from the highest number down, a proposition is not blamed exactly if those still kept, without it, are contradictory
+    blamed-unless : (k : ℕ) → k < length ps → (getD (N .marks) k 0 < 2) × (getD (N .marks) k 0 ≡ 0 ↔ Contradiction ts (listed ts (tried k (N .marks) ps)))
+    blamed-unless = solver.blamed-unless T M N r A accepts con
+
+  -- Demand 3. A contradiction is answered exactly where no assignment exists.
+  contradiction-assignments : r ≡ Solved.Contradiction ↔ ((P : Placement) → Assignment ts G P → ⊥)
+  contradiction-assignments = solver.contradiction-assignments T M N r A accepts
+
+  module _ (sat : r ≡ Solved.Satisfiable) where
+    representative-holds : (t : ℕ) → t < length ts → (P : Placement) → Assignment ts G P → Holds P t (getD (N .offsets) t (pos 0)) (getD (N .representatives) t 0)
+    representative-holds = solver.representative-assignments T M N r A accepts sat
+
+    pair-differs : (i j : ℕ) → i < length ts → j < length ts → bitOf (N .pairs) (i * length ts + j) ≡ 1 → (P : Placement) → Assignment ts G P → Differs P i (pos 0) j
+    pair-differs = solver.pair-assignments T M N r A accepts sat
+
+    equal-holds : (k : ℕ) (q : Comparison) → Item (questionsOf T) k q → getD (N .answers) k 0 ≡ answerNumber Answer.Equal ↔ ((P : Placement) → Assignment ts G P → Holds P (q .left) (q .offset) (q .right))
+    equal-holds = solver.equal-assignments T M N r A accepts sat
+
+    different-differs : (k : ℕ) (q : Comparison) → Item (questionsOf T) k q → getD (N .answers) k 0 ≡ answerNumber Answer.Different → (P : Placement) → Assignment ts G P → Differs P (q .left) (q .offset) (q .right)
+    different-differs = solver.different-assignments T M N r A accepts sat
+
+  -- the blamed propositions have no assignment, and one without any one of them: they are minimal
+  module _ (con : r ≡ Solved.Contradiction) where
+    blamed-none : (P : Placement) → Assignment ts (listed ts (marked (N .marks) ps)) P → ⊥
+    blamed-none = solver.blamed-assignments T M N r A accepts con
+
+    blamed-minimal : (k : ℕ) → k < length ps → getD (N .marks) k 0 ≡ 1 → (P : Placement) × Assignment ts (listed ts (marked (set (N .marks) k 0) ps)) P
+    blamed-minimal = solver.blamed-minimal T M N r A accepts con
+
+-- Demands 2 and 3 of `verdict`.
+module _ (T : Tables) (r : Solved) (is : r ≡ verdictOf T) (accepts : tablesFault most T ≡ none) where
+  verdict-derived : r ≡ Solved.Contradiction ↔ Contradiction (termsOf T) (listed (termsOf T) (propositionsOf T))
+  verdict-derived = solver.verdict-derived T r is accepts
+
+  verdict-assignments : r ≡ Solved.Contradiction ↔ ((P : Placement) → Assignment (termsOf T) (listed (termsOf T) (propositionsOf T)) P → ⊥)
+  verdict-assignments = solver.verdict-assignments T r is accepts
+
+-- The largest distance is reached: by 512 auxiliaries, each −2,147,483,648 from the next, which have an assignment.
+distance-reached : Equal (chainTerms 511) (listed (chainTerms 511) (chainPropositions 511 (2 ^ 31))) 0 (negℤ (pos ((most - 1) * offsetLimit))) 511
+distance-reached = reached.distance-reached-01
+
+distance-assigned : (P : Placement) × Assignment (chainTerms 511) (listed (chainTerms 511) (chainPropositions 511 (2 ^ 31))) P
+distance-assigned = reached.chain-assignment 511 (2 ^ 31)

@@ -1,0 +1,1 @@
+// All that is promised, on one page: specs/Promises.antt. No code.
