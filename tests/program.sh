@@ -4,18 +4,7 @@
 # or writing fails tells why there (its status is 0 too: docs/DECISIONS.md, 19).
 set -u
 export LC_ALL=C
-passed=0
-failed=0
-
-# end: the last line and the status
-end() {
-  echo "$passed passed, $failed failed"
-  [ "$failed" -eq 0 ]
-  exit
-}
-
-pass() { passed=$((passed + 1)); }
-fail() { failed=$((failed + 1)); echo "FAIL $1"; }
+. "$(dirname "$0")/counting.sh" || exit 2
 
 if [ $# -ne 1 ] || ! program=$(realpath -e -- "$1" 2>/dev/null) || [ ! -f "$program" ] || [ ! -x "$program" ]; then
   fail "no program: ${1-}"
