@@ -1,52 +1,28 @@
-//! Memory for calls: arrays to lend, and copies of tables and arrays that end at a closed page, so that a read or a write past the end
-//! of one ends the process.
+//! Memory for calls: arrays and tables to lend, and copies of them that end at a closed page, so that a read or a write past the end of
+//! one ends the process.
 
 use crate::proved::Room;
-use crate::sets::{Numbers, MOST};
+use second_solver::memory::Memory;
 use second_solver::reader::Tables;
+use second_solver::support::{Numbers, MOST};
 use second_solver::tables::{pair_bytes, Input, Lent, Proposition, Question, Term};
 use std::ffi::c_void;
 
 /// Cells before each lent array.
-const GUARD: usize = 3;
+pub const GUARD: usize = 3;
 
-/// The lent arrays, each after some cells that are not lent.
-#[derive(Clone, PartialEq)]
-pub struct Memory {
-    representatives: Vec<u32>,
-    offsets: Vec<i64>,
-    marks: Vec<u8>,
-    pair_bits: Vec<u8>,
-    answers: Vec<u8>,
+/// So many cells of each array to lend, after cells that are not lent, with any content.
+pub fn guarded(r: &mut Numbers, cells: [usize; 5]) -> Memory {
+    Memory::new(cells.map(|n| n + GUARD), || r.next())
 }
 
-impl Memory {
-    /// So many cells of each array to lend, with any content.
-    pub fn new(r: &mut Numbers, cells: [usize; 5]) -> Memory {
-        let mut bytes = |n: usize| (0..n + GUARD).map(|_| r.next() as u8).collect::<Vec<u8>>();
-        Memory {
-            marks: bytes(cells[2]),
-            pair_bits: bytes(cells[3]),
-            answers: bytes(cells[4]),
-            representatives: (0..cells[0] + GUARD).map(|_| r.next() as u32).collect(),
-            offsets: (0..cells[1] + GUARD).map(|_| r.next() as i64).collect(),
-        }
-    }
-
-    pub fn lent(&mut self) -> Lent<'_> {
-        Lent {
-            representatives: &mut self.representatives[GUARD..],
-            offsets: &mut self.offsets[GUARD..],
-            marks: &mut self.marks[GUARD..],
-            pair_bits: &mut self.pair_bits[GUARD..],
-            answers: &mut self.answers[GUARD..],
-        }
-    }
-
-    /// How many propositions are marked.
-    pub fn blamed(&self) -> usize {
-        self.marks[GUARD..].iter().filter(|&&mark| mark == 1).count()
-    }
+/// Tables of so many records with any content.
+pub fn any_tables(r: &mut Numbers, room: [usize; 3]) -> Tables {
+    let mut tables = Tables::default();
+    tables.terms.resize_with(room[0], || Term { kind: r.next(), number: r.next(), offset: r.next() as i64 });
+    tables.propositions.resize_with(room[1], || Proposition { kind: r.next(), left: r.next(), offset: r.next() as i64, right: r.next() });
+    tables.questions.resize_with(room[2], || Question { left: r.next(), offset: r.next() as i64, right: r.next() });
+    tables
 }
 
 extern "C" {

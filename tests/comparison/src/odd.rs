@@ -1,6 +1,7 @@
 //! Odd values in every field of every table: at and beside powers of two, and such that only the low bits look good.
 
-use crate::sets::{self, Numbers, Set};
+use crate::sets;
+use second_solver::support::{Numbers, Set};
 
 /// A field of the records of one kind; a question has no kind.
 #[derive(Clone, Copy)]
@@ -47,9 +48,9 @@ impl Field {
     /// The records of the kind, by their numbers.
     fn places(&self, set: &Set) -> Vec<usize> {
         match self.table {
-            0 => (0..set.terms.len()).filter(|&k| set.terms[k].kind == self.kind).collect(),
-            1 => (0..set.propositions.len()).filter(|&k| set.propositions[k].kind == self.kind).collect(),
-            _ => (0..set.questions.len()).collect(),
+            0 => (0..set.tables.terms.len()).filter(|&k| set.tables.terms[k].kind == self.kind).collect(),
+            1 => (0..set.tables.propositions.len()).filter(|&k| set.tables.propositions[k].kind == self.kind).collect(),
+            _ => (0..set.tables.questions.len()).collect(),
         }
     }
 
@@ -58,16 +59,16 @@ impl Field {
         let number = |x: &mut u64| *x = to(*x);
         let offset = |z: &mut i64| *z = to(*z as u64) as i64;
         match (self.table, self.field) {
-            (0, "kind") => number(&mut set.terms[k].kind),
-            (0, "number") => number(&mut set.terms[k].number),
-            (0, _) => offset(&mut set.terms[k].offset),
-            (1, "kind") => number(&mut set.propositions[k].kind),
-            (1, "left") => number(&mut set.propositions[k].left),
-            (1, "right") => number(&mut set.propositions[k].right),
-            (1, _) => offset(&mut set.propositions[k].offset),
-            (_, "left") => number(&mut set.questions[k].left),
-            (_, "right") => number(&mut set.questions[k].right),
-            _ => offset(&mut set.questions[k].offset),
+            (0, "kind") => number(&mut set.tables.terms[k].kind),
+            (0, "number") => number(&mut set.tables.terms[k].number),
+            (0, _) => offset(&mut set.tables.terms[k].offset),
+            (1, "kind") => number(&mut set.tables.propositions[k].kind),
+            (1, "left") => number(&mut set.tables.propositions[k].left),
+            (1, "right") => number(&mut set.tables.propositions[k].right),
+            (1, _) => offset(&mut set.tables.propositions[k].offset),
+            (_, "left") => number(&mut set.tables.questions[k].left),
+            (_, "right") => number(&mut set.tables.questions[k].right),
+            _ => offset(&mut set.tables.questions[k].offset),
         }
     }
 }

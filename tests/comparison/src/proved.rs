@@ -1,7 +1,11 @@
 //! The exported functions of the static library, as `include/bucketmonk.h` declares them.
 
+use crate::memory::any_tables;
+use second_solver::memory::{needed, Memory};
+use second_solver::program::{refused, Run};
 use second_solver::reader::Tables;
-use second_solver::tables::{Input, Lent, Outcome, Proposition, Question, Term};
+use second_solver::support::Numbers;
+use second_solver::tables::{Input, Lent, Outcome, Proposition, Question, Term, LIMIT};
 use std::ops::Range;
 
 extern "C" {
@@ -57,6 +61,19 @@ extern "C" {
         questions: usize,
         start: *mut usize,
     ) -> usize;
+}
+
+/// The stack that a call needs at most, as the header states.
+pub const STACK: usize = 128 * 1024;
+/// The stack that a call of `output` needs at most.
+pub const OUTPUT_STACK: usize = 192 * 1024;
+
+/// A call on a stack of so many bytes.
+pub fn on_stack<A: Send>(bytes: usize, call: impl FnOnce() -> A + Send) -> A {
+    std::thread::scope(|scope| {
+        let thread = std::thread::Builder::new().stack_size(bytes).spawn_scoped(scope, call);
+        thread.expect("a thread").join().expect("a result")
+    })
 }
 
 fn outcome(code: usize) -> Outcome {
@@ -153,6 +170,28 @@ pub const LARGEST_OUTPUT: usize = 5 + 512 * 27 + 512 * 9;
 pub fn output(text: &[u8], out: &mut [u8]) -> usize {
     // SAFETY: each pointer comes with the length of its slice, and `out` is exclusive.
     unsafe { bucketmonk_output(text.as_ptr(), text.len(), out.as_mut_ptr(), out.len()) }
+}
+
+/// What the proved program writes for a text.
+pub fn run(text: &[u8]) -> Vec<u8> {
+    let mut out = vec![0; LARGEST_OUTPUT];
+    let written = output(text, &mut out);
+    out.truncate(written);
+    out
+}
+
+/// Reads a text and runs the proved solver on its tables, with memory of exactly the needed size.
+pub fn solve_text(text: &[u8]) -> Run {
+    let mut r = Numbers(7);
+    let mut tables = any_tables(&mut r, [LIMIT; 3]);
+    match read(text, &mut room(&mut tables)) {
+        Ok([n, m, q]) => {
+            let mut memory = Memory::new(needed(n, m, q), || r.next());
+            let outcome = solve(&Input { n, m, q, ..tables.input() }, &mut memory.lent());
+            Run { outcome, memory }
+        }
+        Err((number, frame)) => refused(number, frame.try_into().expect("a frame of 16 bits")),
+    }
 }
 
 /// Where the faulty line of a text stands, for tables with room for so many terms, propositions and questions.

@@ -1,106 +1,7 @@
 //! Random sets, whole and damaged, and full sets of several kinds.
 
-use second_solver::tables::{pair_bytes, Input, Proposition, Question, Term};
+use second_solver::support::{Numbers, Set};
 use std::collections::HashMap;
-
-/// A generator of numbers with a fixed seed (xorshift).
-pub struct Numbers(pub u64);
-
-impl Numbers {
-    pub fn next(&mut self) -> u64 {
-        self.0 ^= self.0 << 13;
-        self.0 ^= self.0 >> 7;
-        self.0 ^= self.0 << 17;
-        self.0
-    }
-
-    pub fn below(&mut self, n: usize) -> usize {
-        (self.next() >> 11) as usize % n
-    }
-
-    pub fn one_in(&mut self, n: usize) -> bool {
-        self.below(n) == 0
-    }
-
-    pub fn offset(&mut self) -> i32 {
-        const OFTEN: [i32; 8] = [0, 0, 0, 1, -1, 4, i32::MIN, i32::MAX];
-        if self.one_in(8) {
-            self.next() as i32
-        } else {
-            OFTEN[self.below(OFTEN.len())]
-        }
-    }
-}
-
-/// The tables of a set, and how many cells of each lent array are missing.
-#[derive(Clone, Default, Debug)]
-pub struct Set {
-    pub n: usize,
-    pub m: usize,
-    pub q: usize,
-    pub terms: Vec<Term>,
-    pub propositions: Vec<Proposition>,
-    pub questions: Vec<Question>,
-    pub missing: [usize; 5],
-}
-
-impl Set {
-    pub fn term(&mut self, kind: u64, number: usize, offset: i32) -> usize {
-        self.terms.push(Term { kind, number: number as u64, offset: offset.into() });
-        self.n += 1;
-        self.n - 1
-    }
-
-    pub fn proposition(&mut self, kind: u64, left: usize, offset: i32, right: usize) {
-        self.propositions.push(Proposition { kind, left: left as u64, offset: offset.into(), right: right as u64 });
-        self.m += 1;
-    }
-
-    pub fn question(&mut self, left: usize, offset: i32, right: usize) {
-        self.questions.push(Question { left: left as u64, offset: offset.into(), right: right as u64 });
-        self.q += 1;
-    }
-
-    pub fn input(&self) -> Input<'_> {
-        let (terms, propositions, questions) = (&self.terms, &self.propositions, &self.questions);
-        Input { n: self.n, m: self.m, q: self.q, terms, propositions, questions }
-    }
-
-    /// The lines of the set, each with its LF. Offsets are in range.
-    pub fn lines(&self) -> Vec<Vec<u8>> {
-        let mut lines = Vec::new();
-        for Term { kind, number, offset } in &self.terms {
-            let z = *offset as i32;
-            lines.push(if *kind == 3 { format!("03{number:04X}{z:08X}\n") } else { format!("{kind:02X}{number:04X}\n") });
-        }
-        for Proposition { kind, left, offset, right } in &self.propositions {
-            let z = *offset as i32;
-            lines.push(match kind {
-                0x13 => format!("13{left:04X}{right:04X}\n"),
-                kind => format!("{kind:02X}{left:04X}{z:08X}{right:04X}\n"),
-            });
-        }
-        for Question { left, offset, right } in &self.questions {
-            let z = *offset as i32;
-            lines.push(format!("21{left:04X}{z:08X}{right:04X}\n"));
-        }
-        lines.into_iter().map(String::into_bytes).collect()
-    }
-
-    /// The set as a text.
-    pub fn text(&self) -> Vec<u8> {
-        self.lines().concat()
-    }
-
-    /// The cells that each lent array needs; where a count is refused, those of a lower count.
-    pub fn needed(&self) -> [usize; 5] {
-        let [n, m, q] = [self.n, self.m, self.q].map(|count| count.min(MOST));
-        [n, n, m, pair_bytes(n), q]
-    }
-}
-
-/// Most terms, propositions or questions for which memory is lent.
-pub const MOST: usize = 515;
 
 fn kind_of_proposition(r: &mut Numbers) -> u64 {
     [0x11, 0x11, 0x11, 0x12, 0x12, 0x13][r.below(6)]
@@ -164,45 +65,45 @@ pub fn damage(r: &mut Numbers, set: &mut Set) {
         0 => set.n = too_many(r),
         1 => set.m = too_many(r),
         2 => set.q = too_many(r),
-        3 => cut(r, &mut set.terms),
-        4 => cut(r, &mut set.propositions),
-        5 => cut(r, &mut set.questions),
+        3 => cut(r, &mut set.tables.terms),
+        4 => cut(r, &mut set.tables.propositions),
+        5 => cut(r, &mut set.tables.questions),
         6 => {
             let k = r.below(5);
             set.missing[k] = if r.one_in(2) { 1 } else { usize::MAX };
         }
         7 if set.n > 0 => {
             let k = r.below(set.n);
-            set.terms[k].kind = r.next() % 5;
+            set.tables.terms[k].kind = r.next() % 5;
         }
         8 if set.n > 0 => {
             let k = r.below(set.n);
-            set.terms[k].number = if r.one_in(2) { r.below(set.n + 1) } else { 65_535 + r.below(2) } as u64;
+            set.tables.terms[k].number = if r.one_in(2) { r.below(set.n + 1) } else { 65_535 + r.below(2) } as u64;
         }
         9 if set.n > 0 => {
             let k = r.below(set.n);
-            set.terms[k].offset = r.offset().into();
+            set.tables.terms[k].offset = r.offset().into();
         }
         10 if set.m > 0 => {
             let k = r.below(set.m);
             match r.below(4) {
-                0 => set.propositions[k].kind = 0x10 + r.below(5) as u64,
-                1 => set.propositions[k].left = set.n as u64,
-                2 => set.propositions[k].right = r.next(),
-                _ => set.propositions[k].offset = r.offset().into(),
+                0 => set.tables.propositions[k].kind = 0x10 + r.below(5) as u64,
+                1 => set.tables.propositions[k].left = set.n as u64,
+                2 => set.tables.propositions[k].right = r.next(),
+                _ => set.tables.propositions[k].offset = r.offset().into(),
             }
         }
         11 if set.q > 0 => {
             let k = r.below(set.q);
             if r.one_in(2) {
-                set.questions[k].left = set.n as u64;
+                set.tables.questions[k].left = set.n as u64;
             } else {
-                set.questions[k].right = r.next();
+                set.tables.questions[k].right = r.next();
             }
         }
         _ if set.n > 1 => {
             let (from, to) = (r.below(set.n), r.below(set.n));
-            set.terms[to] = set.terms[from];
+            set.tables.terms[to] = set.tables.terms[from];
         }
         _ => {}
     }
@@ -395,8 +296,8 @@ pub fn listed_twice_in_a_cycle(size: usize) -> Set {
     set
 }
 
-/// Two equal atoms, each read at the same offsets, which all meet in one slot of the closure's table of addresses: multiples of the inverse,
-/// modulo 2^32, of the factor that it multiplies by.
+/// Two equal atoms, each read at the same offsets, which all meet in one slot of the closure's table of addresses: multiples of the
+/// inverse, modulo 2^32, of the factor that it multiplies by.
 pub fn one_slot(size: usize) -> Set {
     let mut set = Set::default();
     set.term(2, 0, 0);

@@ -1,6 +1,7 @@
 //! Texts for the program: accepted, damaged, at the limits, long, and with every byte value at every place of a frame.
 
-use crate::sets::{self, Numbers, Set};
+use crate::sets;
+use second_solver::support::{Numbers, Set};
 
 /// A text. `wanted` is the output where it is known from how the text was made, without either solver.
 pub struct Text {
@@ -25,12 +26,12 @@ fn close_set(r: &mut Numbers) -> Set {
     let mut set = Set::default();
     let mut free: Vec<(u64, usize)> = ATOMS.iter().flat_map(|&number| [(1, number), (2, number), (2, number ^ 2)]).collect();
     for _ in 0..1 + r.below(9) {
-        let dereferences: Vec<usize> = (0..set.n).filter(|&t| set.terms[t].kind == 3).collect();
+        let dereferences: Vec<usize> = (0..set.n).filter(|&t| set.tables.terms[t].kind == 3).collect();
         if set.n == 0 || r.one_in(3) {
             let (kind, number) = free.swap_remove(r.below(free.len()));
             set.term(kind, number, 0);
         } else if !dereferences.is_empty() && r.one_in(3) {
-            let again = set.terms[dereferences[r.below(dereferences.len())]];
+            let again = set.tables.terms[dereferences[r.below(dereferences.len())]];
             set.term(3, again.number as usize, again.offset as i32);
         } else {
             let inner = if r.one_in(2) { set.n - 1 } else { r.below(set.n) };
@@ -40,7 +41,7 @@ fn close_set(r: &mut Numbers) -> Set {
     }
     for _ in 0..r.below(7) {
         if set.m > 0 && r.one_in(4) {
-            let again = set.propositions[r.below(set.m)];
+            let again = set.tables.propositions[r.below(set.m)];
             set.proposition(again.kind, again.left as usize, again.offset as i32, again.right as usize);
         } else {
             let kind = [0x11, 0x11, 0x12, 0x12, 0x12, 0x13][r.below(6)];
@@ -57,7 +58,7 @@ fn close_set(r: &mut Numbers) -> Set {
 fn questions_close(r: &mut Numbers, set: &mut Set) {
     for _ in 0..r.below(7) {
         if set.m > 0 && !r.one_in(3) {
-            let near = set.propositions[r.below(set.m)];
+            let near = set.tables.propositions[r.below(set.m)];
             let (left, z, right) = (near.left as usize, near.offset as i32, near.right as usize);
             match r.below(3) {
                 0 => set.question(left, z, right),

@@ -1,82 +1,75 @@
 //! The whole program as a function from a text to its output.
 
+use crate::memory::{needed, Memory};
 use crate::reader::{read, Tables};
-use crate::tables::{pair_bytes, solve, Lent, Outcome, LIMIT};
+use crate::tables::{solve, Outcome, LIMIT};
 
 /// How many bytes of a text are judged.
 pub const JUDGED: usize = 32_768;
 
-/// What a run of the solver leaves for the tables of a text.
+/// What a run of the solver leaves for a text. A text that is refused leaves
+/// nothing in memory, and the place of the outcome is that of a frame.
 #[derive(Clone, Debug, PartialEq, Eq)]
 pub struct Run {
     pub outcome: Outcome,
-    pub representatives: Vec<u32>,
-    pub offsets: Vec<i64>,
-    pub marks: Vec<u8>,
-    pub pair_bits: Vec<u8>,
-    pub answers: Vec<u8>,
+    pub memory: Memory,
 }
 
 /// Runs the solver with memory of exactly the needed size.
 pub fn solve_tables(tables: &Tables) -> Run {
     let input = tables.input();
-    let mut run = Run {
-        outcome: Outcome::Satisfiable,
-        representatives: vec![0; input.n],
-        offsets: vec![0; input.n],
-        marks: vec![0; input.m],
-        pair_bits: vec![0; pair_bytes(input.n)],
-        answers: vec![0; input.q],
-    };
-    run.outcome = solve(
-        &input,
-        &mut Lent {
-            representatives: &mut run.representatives,
-            offsets: &mut run.offsets,
-            marks: &mut run.marks,
-            pair_bits: &mut run.pair_bits,
-            answers: &mut run.answers,
-        },
-    );
-    run
+    let mut memory = Memory::new(needed(input.n, input.m, input.q), || 0);
+    let outcome = solve(&input, &mut memory.lent());
+    Run { outcome, memory }
+}
+
+/// Reads a text and runs the solver on its tables.
+pub fn solve_text(text: &[u8]) -> Run {
+    match read(text, [LIMIT; 3]) {
+        Ok(tables) => solve_tables(&tables),
+        Err(refusal) => refused(refusal.number, refusal.frame),
+    }
+}
+
+/// What a refused text leaves.
+pub fn refused(number: u8, place: u16) -> Run {
+    Run {
+        outcome: Outcome::Refused { number, place },
+        memory: Memory::default(),
+    }
 }
 
 /// The program's output for a text; its first 32,768 bytes are judged.
 pub fn run(text: &[u8]) -> Vec<u8> {
-    let text = &text[..text.len().min(JUDGED)];
+    frames(&solve_text(&text[..text.len().min(JUDGED)]))
+}
+
+/// What the program writes for a run.
+pub fn frames(run: &Run) -> Vec<u8> {
+    let memory = &run.memory;
     let mut out = String::new();
-    match read(text, [LIMIT; 3]) {
-        Err(refusal) => put_refusal(&mut out, refusal.number, refusal.frame),
-        Ok(tables) => put_run(&mut out, &solve_tables(&tables)),
-    }
-    out.into_bytes()
-}
-
-fn put_refusal(out: &mut String, number: u8, place: u16) {
-    out.push_str(&format!("A4{number:02X}{place:04X}\n"));
-}
-
-fn put_run(out: &mut String, run: &Run) {
     match run.outcome {
-        Outcome::Refused { number, place } => return put_refusal(out, number, place),
+        Outcome::Refused { number, place } => {
+            return format!("A4{number:02X}{place:04X}\n").into_bytes()
+        }
         Outcome::Satisfiable => {
             out.push_str("A000\n");
-            for (t, (representative, offset)) in
-                run.representatives.iter().zip(&run.offsets).enumerate()
-            {
+            let labels = memory.representatives.iter().zip(&memory.offsets);
+            for (t, (representative, offset)) in labels.enumerate() {
                 out.push_str(&format!("A1{t:04X}{representative:04X}{offset:016X}\n"));
             }
         }
         Outcome::Contradiction => {
             out.push_str("A001\n");
-            for (p, &mark) in run.marks.iter().enumerate() {
+            for (p, &mark) in memory.marks.iter().enumerate() {
                 if mark == 1 {
                     out.push_str(&format!("A2{p:04X}\n"));
                 }
             }
         }
     }
-    for (k, answer) in run.answers.iter().enumerate() {
+    for (k, answer) in memory.answers.iter().enumerate() {
         out.push_str(&format!("A3{k:04X}{answer:02X}\n"));
     }
+    out.into_bytes()
 }

@@ -18,12 +18,22 @@ pub struct Tables {
 }
 
 impl Tables {
+    /// How many terms, propositions and questions there are.
+    pub fn counts(&self) -> [usize; 3] {
+        [
+            self.terms.len(),
+            self.propositions.len(),
+            self.questions.len(),
+        ]
+    }
+
     /// The tables as input of the solver, with the counts read.
     pub fn input(&self) -> Input<'_> {
+        let [n, m, q] = self.counts();
         Input {
-            n: self.terms.len(),
-            m: self.propositions.len(),
-            q: self.questions.len(),
+            n,
+            m,
+            q,
             terms: &self.terms,
             propositions: &self.propositions,
             questions: &self.questions,

@@ -2,6 +2,7 @@
 
 use second_solver::program::run;
 use second_solver::reader::{read, Refusal};
+use second_solver::support::{damage_text, Numbers};
 
 const ROOM: [usize; 3] = [512; 3];
 
@@ -176,24 +177,12 @@ fn random_bytes_are_judged() {
     // refusal whose part is a whole line.
     let base =
         b"010001\n020001\n03000000000000\n110001FFFFFFFC0000\n1300000002\n210003000000000002\n";
-    let mut state = 1u64;
-    let mut next = || {
-        state = state
-            .wrapping_mul(6364136223846793005)
-            .wrapping_add(1442695040888963407);
-        (state >> 33) as usize
-    };
-    let pool = b"0123ADEFa\r\n\n \x00G";
+    let mut r = Numbers(1);
     let mut numbers = [0; 11];
     for _ in 0..20_000 {
         let mut text = base.to_vec();
-        for _ in 0..1 + next() % 3 {
-            let at = next() % text.len();
-            match next() % 3 {
-                0 => text[at] = pool[next() % pool.len()],
-                1 => drop(text.remove(at)),
-                _ => text.insert(at, pool[next() % pool.len()]),
-            }
+        for _ in 0..1 + r.below(3) {
+            damage_text(&mut r, &mut text, b"0123ADEFa\r\n\n \x00G");
         }
         if let Err(refusal) = read(&text, ROOM) {
             let before = &text[..refusal.part.start];

@@ -1,107 +1,63 @@
 //! Refusals of the table level: numbers, places, precedence, and that lent
 //! memory stays unchanged.
 
-use second_solver::tables::{
-    pair_bytes, solve, verdict_only, Input, Lent, Outcome, Proposition, Question, Term,
-};
-
-#[derive(Clone, Default)]
-struct Records {
-    n: usize,
-    m: usize,
-    q: usize,
-    terms: Vec<Term>,
-    propositions: Vec<Proposition>,
-    questions: Vec<Question>,
-    /// Cells taken from the end of each table and each lent slice.
-    cut: [usize; 8],
-}
+use second_solver::memory::Memory;
+use second_solver::reader::Tables;
+use second_solver::support::{Numbers, Set};
+use second_solver::tables::{solve, verdict_only, Outcome, Proposition, Question, Term};
 
 type TermFields = (u64, u64, i64);
 type PropositionFields = (u64, u64, i64, u64);
 type QuestionFields = (u64, i64, u64);
 
-impl Records {
-    fn new(
-        terms: &[TermFields],
-        propositions: &[PropositionFields],
-        questions: &[QuestionFields],
-    ) -> Records {
-        Records {
-            n: terms.len(),
-            m: propositions.len(),
-            q: questions.len(),
-            terms: terms
-                .iter()
-                .map(|&(kind, number, offset)| Term {
-                    kind,
-                    number,
-                    offset,
-                })
-                .collect(),
-            propositions: propositions
-                .iter()
-                .map(|&(kind, left, offset, right)| Proposition {
-                    kind,
-                    left,
-                    offset,
-                    right,
-                })
-                .collect(),
-            questions: questions
-                .iter()
-                .map(|&(left, offset, right)| Question {
-                    left,
-                    offset,
-                    right,
-                })
-                .collect(),
-            cut: [0; 8],
-        }
+fn set_of(
+    terms: &[TermFields],
+    propositions: &[PropositionFields],
+    questions: &[QuestionFields],
+) -> Set {
+    let term = |&(kind, number, offset): &_| Term {
+        kind,
+        number,
+        offset,
+    };
+    let proposition = |&(kind, left, offset, right): &_| Proposition {
+        kind,
+        left,
+        offset,
+        right,
+    };
+    let question = |&(left, offset, right): &_| Question {
+        left,
+        offset,
+        right,
+    };
+    let tables = Tables {
+        terms: terms.iter().map(term).collect(),
+        propositions: propositions.iter().map(proposition).collect(),
+        questions: questions.iter().map(question).collect(),
+    };
+    let [n, m, q] = tables.counts();
+    Set {
+        n,
+        m,
+        q,
+        tables,
+        missing: [0; 5],
     }
+}
 
-    fn run(&self) -> Outcome {
-        // Counts beyond the limit may be huge, so the slices follow the records.
-        let (n, m, q) = (
-            self.terms.len(),
-            self.propositions.len(),
-            self.questions.len(),
-        );
-        let input = Input {
-            n: self.n,
-            m: self.m,
-            q: self.q,
-            terms: &self.terms[..n - self.cut[0]],
-            propositions: &self.propositions[..m - self.cut[1]],
-            questions: &self.questions[..q - self.cut[2]],
-        };
-        let mut representatives = vec![99_u32; n - self.cut[3]];
-        let mut offsets = vec![99_i64; n - self.cut[4]];
-        let mut marks = vec![99_u8; m - self.cut[5]];
-        let mut pair_bits = vec![99_u8; pair_bytes(n) - self.cut[6]];
-        let mut answers = vec![99_u8; q - self.cut[7]];
-        let outcome = solve(
-            &input,
-            &mut Lent {
-                representatives: &mut representatives,
-                offsets: &mut offsets,
-                marks: &mut marks,
-                pair_bits: &mut pair_bits,
-                answers: &mut answers,
-            },
-        );
-        if let Outcome::Refused { .. } = outcome {
-            assert!(representatives.iter().all(|&c| c == 99));
-            assert!(offsets.iter().all(|&c| c == 99));
-            assert!(marks.iter().all(|&c| c == 99));
-            assert!(pair_bits.iter().all(|&c| c == 99));
-            assert!(answers.iter().all(|&c| c == 99));
-        }
-        if self.cut[3..] == [0; 5] {
-            assert_eq!(outcome, verdict_only(&input));
-        }
-        outcome
+fn run(set: &Set) -> Outcome {
+    let mut r = Numbers(1);
+    let before = Memory::new(set.cells(0), || r.next());
+    let mut memory = before.clone();
+    let outcome = solve(&set.input(), &mut memory.lent());
+    if let Outcome::Refused { .. } = outcome {
+        assert_eq!(memory, before);
     }
+    if set.missing == [0; 5] {
+        assert_eq!(outcome, verdict_only(&set.input()));
+    }
+    outcome
 }
 
 fn refused(number: u8, place: u16) -> Outcome {
@@ -131,36 +87,36 @@ const HIGH: [u64; 6] = [1 << 8, 1 << 16, 1 << 31, 1 << 32, 1 << 63, u64::MAX << 
 
 #[test]
 fn nothing_is_accepted() {
-    assert_eq!(Records::default().run(), Outcome::Satisfiable);
+    assert_eq!(run(&Set::default()), Outcome::Satisfiable);
 }
 
 #[test]
 fn the_limits_are_accepted() {
-    let set = Records::new(
+    let set = set_of(
         &terms(512),
         &[(0x11, 511, 0, 0); 512],
         &[(511, -1, 511); 512],
     );
-    assert_eq!(set.run(), Outcome::Satisfiable);
-    let set = Records::new(
+    assert_eq!(run(&set), Outcome::Satisfiable);
+    let set = set_of(
         &[(1, 65535, 0), (2, 65535, 0), (3, 1, -2_147_483_648)],
         &[(0x11, 2, -2_147_483_648, 0), (0x12, 2, 2_147_483_647, 1)],
         &[(0, -2_147_483_648, 1), (0, 2_147_483_647, 1)],
     );
-    assert_eq!(set.run(), Outcome::Satisfiable);
+    assert_eq!(run(&set), Outcome::Satisfiable);
 }
 
 #[test]
 fn counts_come_first() {
-    let mut set = Records::new(&terms(2), &[(0x11, 9, 0, 0)], &[(0, 0, 9)]);
-    set.cut[0] = 1;
-    set.cut[7] = 1;
+    let mut set = set_of(&terms(2), &[(0x11, 9, 0, 0)], &[(0, 0, 9)]);
+    set.tables.terms.pop();
+    set.missing[4] = 1;
     set.q = 513;
-    assert_eq!(set.run(), refused(3, 512));
+    assert_eq!(run(&set), refused(3, 512));
     set.m = usize::MAX;
-    assert_eq!(set.run(), refused(2, 512));
+    assert_eq!(run(&set), refused(2, 512));
     set.n = usize::MAX;
-    assert_eq!(set.run(), refused(1, 512));
+    assert_eq!(run(&set), refused(1, 512));
 }
 
 #[test]
@@ -170,12 +126,17 @@ fn every_short_slice_is_refused() {
         [(0x99, 9, 0, 9)],
         [(9, 0, 9)],
     );
-    let mut set = Records::new(&records.0, &records.1, &records.2);
-    assert_eq!(set.run(), refused(5, 1));
+    let whole = set_of(&records.0, &records.1, &records.2);
+    assert_eq!(run(&whole), refused(5, 1));
     for k in 0..8 {
-        set.cut = [0; 8];
-        set.cut[k] = 1;
-        assert_eq!(set.run(), refused(8, 0), "slice {k}");
+        let mut set = whole.clone();
+        match k {
+            0 => drop(set.tables.terms.pop()),
+            1 => drop(set.tables.propositions.pop()),
+            2 => drop(set.tables.questions.pop()),
+            _ => set.missing[k - 3] = 1,
+        }
+        assert_eq!(run(&set), refused(8, 0), "slice {k}");
     }
 }
 
@@ -186,7 +147,7 @@ fn term_records() {
         records.push(record);
         // Later faults must not matter.
         records.push((0, 0, 0));
-        Records::new(&records, &[(0, 0, 0, 0)], &[(99, 0, 0)]).run()
+        run(&set_of(&records, &[(0, 0, 0, 0)], &[(99, 0, 0)]))
     };
     assert_eq!(after((0, 0, 0)), refused(9, 3));
     assert_eq!(after((4, 0, 0)), refused(9, 3));
@@ -225,12 +186,8 @@ fn term_records() {
 #[test]
 fn proposition_records() {
     let after = |record| {
-        Records::new(
-            &terms(3),
-            &[(0x11, 0, 5, 1), record, (0x12, 3, 0, 0)],
-            &[(99, 0, 0)],
-        )
-        .run()
+        let propositions = [(0x11, 0, 5, 1), record, (0x12, 3, 0, 0)];
+        run(&set_of(&terms(3), &propositions, &[(99, 0, 0)]))
     };
     assert_eq!(after((0x10, 9, 0, 9)), refused(9, 1));
     assert_eq!(after((0x21, 0, 0, 0)), refused(9, 1));
@@ -257,8 +214,7 @@ fn proposition_records() {
 
 #[test]
 fn question_records() {
-    let with =
-        |records: &[QuestionFields]| Records::new(&terms(3), &[(0x11, 0, 1, 0)], records).run();
+    let with = |records: &[QuestionFields]| run(&set_of(&terms(3), &[(0x11, 0, 1, 0)], records));
     assert_eq!(with(&[(0, 0, 2), (3, 0, 0)]), refused(7, 1));
     assert_eq!(with(&[(0, 0, 2), (0, 0, 3)]), refused(7, 1));
     assert_eq!(with(&[(0, 0, u64::MAX)]), refused(7, 0));

@@ -2,16 +2,23 @@
 //! from 128 to 256 to 512 terms, for a whole solve and for the verdict alone; blame on a contradictory full set beside one verdict on
 //! it; and both readers on full texts.
 
-use comparison::memory::Memory;
-use comparison::proved;
-use comparison::sets::{self, Numbers, Set};
-use second_solver::reader::{self, Tables};
-use second_solver::tables::{self, Outcome, Proposition, Question, Term};
+use comparison::memory::any_tables;
+use comparison::{proved, sets};
+use second_solver::memory::Memory;
+use second_solver::reader;
+use second_solver::support::{Numbers, Set};
+use second_solver::tables::{self, Outcome};
 use std::hint::black_box;
 use std::time::Instant;
 
 fn memory(set: &Set) -> Memory {
-    Memory::new(&mut Numbers(7), set.needed())
+    let mut r = Numbers(7);
+    Memory::new(set.cells(0), || r.next())
+}
+
+/// How many propositions are marked.
+fn blamed(memory: &Memory) -> usize {
+    memory.marks.iter().filter(|&&mark| mark == 1).count()
 }
 
 /// Seconds of the fastest of 20 calls, and the outcome. Fewer calls once they have taken a second.
@@ -53,7 +60,7 @@ fn family(name: &str, build: fn(&mut Numbers, usize) -> Set) {
         let (ours, theirs) = (fastest(|| proved::verdict(&input)), fastest(|| tables::verdict_only(&input)));
         let (alone, seconds, _) = beside(ours, theirs, last[1]);
         last[1] = Some(seconds);
-        let blame = if outcome == Outcome::Contradiction { format!(", {} blamed", memory.blamed()) } else { "".into() };
+        let blame = if outcome == Outcome::Contradiction { format!(", {} blamed", blamed(&memory)) } else { "".into() };
         println!("{name:<16} {:>5} {:>12}  {whole}  {alone}  {outcome:?}{blame}", set.n, set.m);
     }
 }
@@ -101,18 +108,14 @@ fn blame(name: &str, set: &Set) {
     });
     println!(
         "{name:<12} {} terms {} propositions, {} blamed: {:.3} ms, one verdict {:.3} ms, ratio {:.0}, at most 600 ({verdict:?})",
-        set.n, set.m, memory.blamed(), whole * 1e3, one * 1e3, whole / one
+        set.n, set.m, blamed(&memory), whole * 1e3, one * 1e3, whole / one
     );
 }
 
 /// Both readers on a text that fills all tables.
 fn reading(name: &str, set: &Set) {
     let text = set.text();
-    let mut lent = Tables {
-        terms: vec![Term::default(); 512],
-        propositions: vec![Proposition::default(); 512],
-        questions: vec![Question::default(); 512],
-    };
+    let mut lent = any_tables(&mut Numbers(7), [512; 3]);
     let counts = proved::read(&text, &mut proved::room(&mut lent));
     assert_eq!(counts, Ok([512, 512, 512]));
     assert_eq!(reader::read(&text, [512; 3]), Ok(lent.clone()));

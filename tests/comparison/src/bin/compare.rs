@@ -2,56 +2,29 @@
 //! Every returned value and every lent cell is compared, and so are the cells before those lent, the tables and the verdict alone; past
 //! each table and lent array is a closed page. Then both readers on small texts, whole and damaged, and full ones. Last line:
 //! "N passed, M failed".
+//!
+//! `compare FILE` makes the one call of a call file and prints what both leave.
 
-use comparison::memory::{Held, Memory};
+use comparison::calls::{Call, Given};
+use comparison::count::{watched, Count};
+use comparison::memory::{any_tables, guarded, Held, GUARD};
 use comparison::odd::{self, Field};
-use comparison::proved;
-use comparison::sets::{self, Numbers, Set};
+use comparison::{proved, sets};
+use second_solver::memory::Memory;
 use second_solver::reader::{self, Tables};
-use second_solver::tables::{self, Input, Lent, Outcome, Proposition, Question, Term};
-
-/// The stack that a call needs at most, as the header states.
-const STACK: usize = 128 * 1024;
-/// Most failures that are shown.
-const SHOWN: usize = 5;
+use second_solver::support::{damage_text, Numbers, Set};
+use second_solver::tables::{self, Input, Lent, Outcome};
+use std::ops::Range;
+use std::process::ExitCode;
 
 /// The proved solver and the verdict alone; for full sets on the stack that the header states.
 fn solve_proved(input: &Input, lent: &mut Lent) -> [Outcome; 2] {
     let mut call = || [proved::solve(input, lent), proved::verdict(input)];
-    if input.n != 512 {
-        return call();
+    if input.n == 512 {
+        proved::on_stack(proved::STACK, call)
+    } else {
+        call()
     }
-    std::thread::scope(|scope| {
-        let thread = std::thread::Builder::new().stack_size(STACK).spawn_scoped(scope, call);
-        thread.expect("a thread").join().expect("an outcome")
-    })
-}
-
-/// Damages a text in one place; some damages leave it acceptable.
-fn damage_text(r: &mut Numbers, text: &mut Vec<u8>) {
-    const BYTES: &[u8] = b"0123456789ABCDEFa\r\n ";
-    let at = r.below(text.len() + 1);
-    let byte = BYTES[r.below(BYTES.len())];
-    match r.below(4) {
-        0 => text.insert(at, byte),
-        1 if at < text.len() => text[at] = byte,
-        2 if at < text.len() => (text.remove(at), ()).1,
-        _ => {
-            // a line again at the end
-            let from = text[..at].iter().rposition(|&b| b == b'\n').map_or(0, |k| k + 1);
-            let line: Vec<u8> = text[from..].iter().copied().take_while(|&b| b != b'\n').chain([b'\n']).collect();
-            text.extend(line);
-        }
-    }
-}
-
-/// Tables of so many records with any content.
-fn any_tables(r: &mut Numbers, room: [usize; 3]) -> Tables {
-    let mut tables = Tables::default();
-    tables.terms.resize_with(room[0], || Term { kind: r.next(), number: r.next(), offset: r.next() as i64 });
-    tables.propositions.resize_with(room[1], || Proposition { kind: r.next(), left: r.next(), offset: r.next() as i64, right: r.next() });
-    tables.questions.resize_with(room[2], || Question { left: r.next(), offset: r.next() as i64, right: r.next() });
-    tables
 }
 
 /// What a reader leaves that finds the tables in lent ones.
@@ -76,7 +49,7 @@ fn full(r: &mut Numbers, k: usize) -> Set {
         let (left, offset, right) = (r.below(512), r.offset(), r.below(512));
         if set.m == 512 {
             set.m -= 1;
-            set.propositions.pop();
+            set.tables.propositions.pop();
         }
         set.proposition(0x11, left % set.n, offset, right % set.n);
     }
@@ -88,55 +61,128 @@ fn full(r: &mut Numbers, k: usize) -> Set {
     set
 }
 
-#[derive(Default)]
+/// What a solver leaves: its outcome and that of the verdict alone, and the lent memory after cells that are not lent.
+#[derive(PartialEq)]
+struct Solved {
+    outcomes: [Outcome; 2],
+    memory: Memory,
+}
+
+/// What a reader leaves: the counts or the refusal, where the faulty line stands, and the lent tables.
+#[derive(PartialEq)]
+struct Read {
+    result: Result<[usize; 3], (u8, usize)>,
+    faulty: Range<usize>,
+    tables: Tables,
+}
+
+/// Something that a call leaves, as it is shown: its name, the number of its first cell, and its cells.
+type Part = (&'static str, isize, Vec<String>);
+
+trait Shown {
+    /// All that a call leaves.
+    fn shown(&self) -> Vec<Part>;
+}
+
+impl Shown for Solved {
+    fn shown(&self) -> Vec<Part> {
+        let [outcome, alone] = self.outcomes.map(|outcome| vec![format!("{outcome:?}")]);
+        let mut all = vec![("outcome", 0, outcome), ("verdict alone", 0, alone)];
+        all.extend(self.memory.shown().map(|(name, cells)| (name, -(GUARD as isize), cells)));
+        all
+    }
+}
+
+impl Shown for Read {
+    fn shown(&self) -> Vec<Part> {
+        fn all<A: std::fmt::Debug>(records: &[A]) -> Vec<String> {
+            records.iter().map(|record| format!("{record:?}")).collect()
+        }
+        vec![
+            ("counts or refusal", 0, vec![format!("{:?}", self.result)]),
+            ("faulty line", 0, vec![format!("{:?}", self.faulty)]),
+            ("terms", 0, all(&self.tables.terms)),
+            ("propositions", 0, all(&self.tables.propositions)),
+            ("questions", 0, all(&self.tables.questions)),
+        ]
+    }
+}
+
+/// All that both leave, each part once where it is the same.
+fn in_full(ours: &impl Shown, theirs: &impl Shown) -> String {
+    let line = |whose: &str, (name, first, cells): &Part| {
+        let from = if cells.len() == 1 { "".into() } else { format!(" from {first}") };
+        format!("{whose}, {name}{from}: {}\n", cells.join(" "))
+    };
+    let both = |(ours, theirs)| match ours == theirs {
+        true => line("both", &ours),
+        false => line("proved", &ours) + &line("second", &theirs),
+    };
+    ours.shown().into_iter().zip(theirs.shown()).map(both).collect()
+}
+
+/// The first unlike cell of each part.
+fn unlike(ours: &impl Shown, theirs: &impl Shown) -> Vec<String> {
+    let mut unlike = Vec::new();
+    for ((name, first, ours), (_, _, theirs)) in ours.shown().into_iter().zip(theirs.shown()) {
+        if let Some(k) = (0..ours.len()).find(|&k| ours[k] != theirs[k]) {
+            let at = if ours.len() == 1 { "".into() } else { format!(" {}", first + k as isize) };
+            unlike.push(format!("{name}{at}: proved {}, second {}", ours[k], theirs[k]));
+        }
+    }
+    unlike
+}
+
 struct Run {
+    count: Count,
+    /// Whether one call is made alone, so that all it leaves is printed.
+    alone: bool,
     held: Held,
-    passed: usize,
-    failed: usize,
     verdicts: [usize; 2],
     refusals: [usize; 11],
     texts: [usize; 11],
 }
 
 impl Run {
-    fn count(&mut self, same: bool, what: impl Fn() -> String) {
-        if same {
-            self.passed += 1;
-        } else {
-            self.failed += 1;
-            if self.failed <= SHOWN {
-                println!("FAIL {:.2000}", what());
-            }
-        }
+    fn new(count: Count, alone: bool) -> Run {
+        Run { count, alone, held: Held::default(), verdicts: [0; 2], refusals: [0; 11], texts: [0; 11] }
     }
 
-    /// Something that has to be true of the calls, so that they test what they are meant to.
-    fn show(&mut self, what: &str, shown: bool) {
-        if !shown {
-            self.failed += 1;
-            println!("FAIL the calls do not show: {what}");
+    /// Counts a call as passed if both leave the same and nothing else is wrong.
+    fn judge<A: Shown + PartialEq>(&mut self, name: &str, ours: &A, theirs: &A, wrong: Option<&str>, call: impl FnOnce() -> Call) {
+        if self.alone {
+            print!("{}", in_full(ours, theirs));
         }
+        let result = match wrong {
+            None if ours == theirs => Ok(()),
+            _ => Err(wrong.map(String::from).into_iter().chain(unlike(ours, theirs)).collect::<Vec<_>>().join("; ")),
+        };
+        self.count.add(name, result, |stem| call().keep(stem));
     }
 
     /// Both solvers on a set, with `more` cells lent beyond what is needed. Returns the number of the refusal or 0.
     fn set(&mut self, r: &mut Numbers, name: &str, set: &Set, more: usize) -> usize {
-        let mut cells = set.needed();
-        for k in 0..5 {
-            cells[k] = if set.missing[k] == 0 { cells[k] + more } else { cells[k].saturating_sub(set.missing[k]) };
-        }
-        let before = Memory::new(r, cells);
+        let seed = r.0;
+        let call = || Call { seed, given: Given::Set { set: set.clone(), more } };
+        self.count.record(|stem| call().keep(stem));
+        let before = guarded(r, set.cells(more));
         let (mut left, mut right) = (before.clone(), before.clone());
-        let (ours, tables_kept) = self.held.solve(&set.input(), &mut left, solve_proved);
-        let theirs = tables::solve(&set.input(), &mut right.lent());
-        let number = match theirs {
+        let (outcomes, tables_kept) = self.held.solve(&set.input(), &mut left, solve_proved);
+        let outcome = tables::solve(&set.input(), &mut right.lent_after(GUARD));
+        let alone = tables::verdict_only(&Input { q: 0, ..set.input() });
+        let number = match outcome {
             Outcome::Refused { number, .. } => usize::from(number),
             Outcome::Satisfiable => (self.verdicts[0] += 1, 0).1,
             Outcome::Contradiction => (self.verdicts[1] += 1, 0).1,
         };
         self.refusals[number] += 1;
-        let alone = tables::verdict_only(&Input { q: 0, ..set.input() });
-        let same = ours == [theirs, alone] && left == right && tables_kept && (number == 0 || left == before);
-        self.count(same, || format!("{name} set: {ours:?} and not {:?}, of {set:?}", [theirs, alone]));
+        let wrong = match () {
+            _ if !tables_kept => Some("the tables are changed"),
+            _ if number != 0 && left != before => Some("a refused call changes memory"),
+            _ => None,
+        };
+        let (ours, theirs) = (Solved { outcomes, memory: left }, Solved { outcomes: [outcome, alone], memory: right });
+        self.judge(&format!("{name} set"), &ours, &theirs, wrong, call);
         number
     }
 
@@ -150,28 +196,27 @@ impl Run {
         let [accepted, _, _, _, four, five, six, seven, _, nine, _] = numbers;
         println!("{:<26} {accepted:>8} {four:>4} {five:>4} {six:>4} {seven:>4} {nine:>4}", field.name());
         let only = [4, 6, 7, 9].iter().all(|&number| number == field.refusal() || numbers[number] == 0);
-        self.show("the refusal of the field, often", numbers[field.refusal()] > 3 * odd::VALUES);
-        self.show("no other refusal", only || field.name().ends_with("kind"));
+        self.count.show("the refusal of the field, often", numbers[field.refusal()] > 3 * odd::VALUES);
+        self.count.show("no other refusal", only || field.name().ends_with("kind"));
     }
 
     /// Both readers on a text, with room for so many records.
     fn text(&mut self, r: &mut Numbers, text: &[u8], room: [usize; 3]) {
+        let seed = r.0;
+        let call = || Call { seed, given: Given::Text { text: text.to_vec(), room } };
+        self.count.record(|stem| call().keep(stem));
         let before = any_tables(r, room);
-        let mut lent = before.clone();
-        let ((ours, part), text_kept) =
-            self.held.read(text, &mut lent, |text, tables| (proved::read(text, tables), proved::faulty_line(text, room)));
-        let (same, number) = match reader::read(text, room) {
-            Ok(tables) => {
-                let counts = [tables.terms.len(), tables.propositions.len(), tables.questions.len()];
-                (ours == Ok(counts) && lent == written(&tables, before) && part == (0..0), 0)
-            }
-            Err(refusal) => {
-                let told = Err((refusal.number, usize::from(refusal.frame)));
-                (ours == told && lent == before && part == refusal.part, usize::from(refusal.number))
-            }
+        let mut tables = before.clone();
+        let ((result, faulty), text_kept) =
+            self.held.read(text, &mut tables, |text, tables| (proved::read(text, tables), proved::faulty_line(text, room)));
+        let ours = Read { result, faulty, tables };
+        let theirs = match reader::read(text, room) {
+            Ok(found) => Read { result: Ok(found.counts()), faulty: 0..0, tables: written(&found, before) },
+            Err(refusal) => Read { result: Err((refusal.number, refusal.frame.into())), faulty: refusal.part, tables: before },
         };
-        self.texts[number] += 1;
-        self.count(same && text_kept, || format!("text: {ours:?}, of {}", text.escape_ascii()));
+        self.texts[theirs.result.map_or_else(|(number, _)| number.into(), |_| 0)] += 1;
+        let wrong = Some("the text is changed").filter(|_| !text_kept);
+        self.judge("text", &ours, &theirs, wrong, call);
     }
 }
 
@@ -204,7 +249,7 @@ fn compare_sets(run: &mut Run, r: &mut Numbers) {
     }
     println!("satisfiable {}, contradictory {}, refused by number {:?}", run.verdicts[0], run.verdicts[1], &run.refusals[1..]);
     for number in 1..10 {
-        run.show(&format!("refusal {number}"), run.refusals[number] > 0);
+        run.count.show(&format!("refusal {number}"), run.refusals[number] > 0);
     }
 }
 
@@ -213,7 +258,7 @@ fn compare_texts(run: &mut Run, r: &mut Numbers) {
         let set = if k < 20 { sets::long_lines(r, 512, k % 4 < 2) } else { sets::small(r) };
         let mut text = set.text();
         if k % 2 == 1 {
-            damage_text(r, &mut text);
+            damage_text(r, &mut text, b"0123456789ABCDEFa\r\n ");
         }
         let room = [0; 3].map(|_| if r.one_in(100) { 511 } else { 512 + r.below(3) });
         run.text(r, &text, room);
@@ -221,11 +266,28 @@ fn compare_texts(run: &mut Run, r: &mut Numbers) {
     println!("texts accepted {}, refused by number {:?}", run.texts[0], &run.texts[1..]);
 }
 
-fn main() {
+fn compare_all() -> ExitCode {
     let mut r = Numbers(0x9E37_79B9_7F4A_7C15);
-    let mut run = Run::default();
+    let mut run = Run::new(Count::keeping("compare"), false);
     compare_sets(&mut run, &mut r);
     compare_texts(&mut run, &mut r);
-    println!("{} passed, {} failed", run.passed, run.failed);
-    std::process::exit(i32::from(run.failed > 0));
+    run.count.end()
+}
+
+fn compare_one(file: &str) -> ExitCode {
+    let content = std::fs::read_to_string(file).map_err(|error| error.to_string());
+    let mut run = Run::new(Count::plain(), true);
+    match content.and_then(|content| Call::parse(&content)) {
+        Ok(Call { seed, given: Given::Set { set, more } }) => drop(run.set(&mut Numbers(seed), "the", &set, more)),
+        Ok(Call { seed, given: Given::Text { text, room } }) => run.text(&mut Numbers(seed), &text, room),
+        Err(error) => run.count.fail(&format!("{file}: {error}")),
+    }
+    run.count.end()
+}
+
+fn main() -> ExitCode {
+    match std::env::args().nth(1) {
+        None => watched("compare", compare_all),
+        Some(file) => compare_one(&file),
+    }
 }
