@@ -17,7 +17,7 @@ ghost use Rattle.columns.specs.Held.{answerAt};
 ghost use Rattle.columns.specs.Telling.{Asking};
 
 // The answers to the questions, each into its byte.
-pub fn answer_each(
+pub(crate) fn answer_each(
     n: usize,
     kinds: &[u8],
     numbers: &[u32],

@@ -30,7 +30,7 @@ fn word(x: u64) -> u32
     x as u32
 }
 
-pub fn fill_terms(terms: &[TermRow], kinds: &mut [u8], numbers: &mut [u32], zs: &mut [i32])
+pub(crate) fn fill_terms(terms: &[TermRow], kinds: &mut [u8], numbers: &mut [u32], zs: &mut [i32])
     requires { ⌜ NarrowTerms (length (now terms)) (termAt (now terms)) × (length (now terms) ≤ most) ⌝ }
     requires { ⌜ (length (now kinds) ≡ most) × ((length (now numbers) ≡ most) × (length (now zs) ≡ most)) ⌝ }
     ensures { λ _. ⌜ FilledTerms (termAt (before terms)) (length (before terms)) (after kinds) (after numbers) (after zs) ⌝ }
@@ -43,7 +43,7 @@ pub fn fill_terms(terms: &[TermRow], kinds: &mut [u8], numbers: &mut [u32], zs: 
     }
 }
 
-pub fn fill_propositions(
+pub(crate) fn fill_propositions(
     propositions: &[PropositionRow],
     kinds: &mut [u8],
     lefts: &mut [u32],
@@ -64,7 +64,7 @@ pub fn fill_propositions(
 }
 
 // Copies labels. Those of the caller are reached by pointers, which the loops of `differences` have no registers for.
-pub fn copy_labels(reps: &[u32], offs: &[i64], own_reps: &mut [u32], own_offs: &mut [i64])
+pub(crate) fn copy_labels(reps: &[u32], offs: &[i64], own_reps: &mut [u32], own_offs: &mut [i64])
     requires { ⌜ (length (now offs) ≡ length (now reps)) × (length (now reps) ≤ most) ⌝ }
     requires { ⌜ (length (now «own_reps») ≡ most) × (length (now «own_offs») ≡ most) ⌝ }
     ensures { λ _. ⌜ CopiedLabels (before reps) (before offs) (after «own_reps») (after «own_offs») ⌝ }

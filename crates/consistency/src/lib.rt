@@ -18,7 +18,7 @@ ghost use Rattle.tables.specs.Sets.{setOf, AcceptedSet};
 ghost use Rattle.consistency.specs.Deciding.{Decided};
 
 // Whether the propositions that are marked are consistent. If they are, the labels are the closure's; else what is left in them is not
-// told. Public for the crate `solver`.
+// told. Public for the crates `blame` and `solver`.
 pub fn is_consistent(
     terms: &[TermRow],
     propositions: &[PropositionRow],

@@ -44,7 +44,7 @@ fn mark_classes_of(
 }
 
 // The pairs that differ by their classes.
-pub fn mark_classes(n: usize, reps: &[u32], offs: &[i64], apart: &[u8], pairs: &mut [u8])
+pub(crate) fn mark_classes(n: usize, reps: &[u32], offs: &[i64], apart: &[u8], pairs: &mut [u8])
     requires { ⌜ Labelled n (now reps) (now offs) × (Room n (now apart) × Room n (now pairs)) ⌝ }
     ensures { λ _.
         ⌜
@@ -116,7 +116,7 @@ fn mark_moved(
 
 // The pairs that the listed disequalities are moved to. One whose sides are equal at another offset is moved only to pairs
 // that are equal at another offset too, which differ by their classes.
-pub fn mark_disequalities(
+pub(crate) fn mark_disequalities(
     n: usize,
     m: usize,
     kinds: &[u8],

@@ -16,7 +16,7 @@ fn pair_number(n: usize, i: TermNumber, j: TermNumber) -> usize
 }
 
 // Sets the bit of a pair.
-pub fn set_pair(n: usize, i: TermNumber, j: TermNumber, table: &mut [u8])
+pub(crate) fn set_pair(n: usize, i: TermNumber, j: TermNumber, table: &mut [u8])
     requires { ⌜ Inside n (i .0) (j .0) × Room n (now table) ⌝ }
     ensures { λ _. ⌜ Adds n (One (i .0) (j .0)) (before table) (after table) ⌝ }
 {
@@ -25,7 +25,7 @@ pub fn set_pair(n: usize, i: TermNumber, j: TermNumber, table: &mut [u8])
 }
 
 // Sets the bits of a pair and of its mirror image.
-pub fn set_both(n: usize, i: TermNumber, j: TermNumber, table: &mut [u8])
+pub(crate) fn set_both(n: usize, i: TermNumber, j: TermNumber, table: &mut [u8])
     requires { ⌜ Inside n (i .0) (j .0) × Room n (now table) ⌝ }
     ensures { λ _. ⌜ Adds n (Both (i .0) (j .0)) (before table) (after table) ⌝ }
 {

@@ -10,13 +10,13 @@ ghost use Rattle.tables.specs.Limits.{offsetLimit};
 ghost use Rattle.integers.specs.Within.{Within};
 
 // The kinds of records.
-pub const VARIABLE: u8 = 0x01;
+pub(crate) const VARIABLE: u8 = 0x01;
 
 pub const DEREFERENCE: u8 = 0x03;
 
 pub const DISEQUALITY: u8 = 0x12;
 
-pub const BLOCK_DISEQUALITY: u8 = 0x13;
+pub(crate) const BLOCK_DISEQUALITY: u8 = 0x13;
 
 fn index(t: u32) -> usize
     ensures { λ r. ⌜ r ≡ t ⌝ }
@@ -33,7 +33,7 @@ pub fn term_at(column: &[u32], k: usize) -> TermNumber
 }
 
 // The offset in row k of a column of the set.
-pub fn offset_at(column: &[i32], k: usize) -> i64
+pub(crate) fn offset_at(column: &[i32], k: usize) -> i64
     requires { ⌜ k < length (now column) ⌝ }
     ensures { λ r. ⌜ (r ≡ getD (before column) k (pos 0)) × Within offsetLimit r ⌝ }
 {
@@ -41,7 +41,7 @@ pub fn offset_at(column: &[i32], k: usize) -> i64
 }
 
 // The offset of a term from its representative.
-pub fn position(offs: &[i64], t: TermNumber) -> i64
+pub(crate) fn position(offs: &[i64], t: TermNumber) -> i64
     requires { ⌜ t .0 < length (now offs) ⌝ }
     ensures { λ r. ⌜ r ≡ getD (before offs) (t .0) (pos 0) ⌝ }
 {

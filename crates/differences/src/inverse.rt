@@ -40,7 +40,7 @@ fn invert_of(n: usize, x: TermNumber, kinds: &[u8], numbers: &[u32], zs: &[i32],
 }
 
 // From all pairs, the highest numbers first: a dereference has a higher number than the term inside, so one pass settles the table.
-pub fn invert(n: usize, kinds: &[u8], numbers: &[u32], zs: &[i32], pairs: &mut [u8])
+pub(crate) fn invert(n: usize, kinds: &[u8], numbers: &[u32], zs: &[i32], pairs: &mut [u8])
     requires { ⌜ Dereferences n (now kinds) (now numbers) (now zs) × Room n (now pairs) ⌝ }
     ensures { λ _.
         ⌜ Adds n (InverseFrom 0 n (before kinds) (before numbers) (before zs) (after pairs)) (before pairs) (after pairs) ⌝ }

@@ -26,7 +26,7 @@ ghost use Rattle.differences.specs.Marks.{Room};
 ghost use Rattle.differences.specs.Ranges.{Against, Inside, Labelled, Offset, SidesPlaced};
 ghost use Rattle.differences.specs.Base.{classesDiffer, sides};
 
-pub fn same_class(t1: TermNumber, t2: TermNumber, reps: &[u32]) -> bool
+pub(crate) fn same_class(t1: TermNumber, t2: TermNumber, reps: &[u32]) -> bool
     requires { ⌜ (t1 .0 < length (now reps)) × (t2 .0 < length (now reps)) ⌝ }
     ensures { λ r. ⌜ r ≡ eqb (getD (before reps) (t1 .0) 0) (getD (before reps) (t2 .0) 0) ⌝ }
 {
@@ -58,7 +58,13 @@ pub fn equal_at(t1: TermNumber, z: i64, t2: TermNumber, reps: &[u32], offs: &[i6
 }
 
 // Whether t1 and t2 are equal at another offset than z.
-pub fn other_offset(t1: TermNumber, z: i64, t2: TermNumber, reps: &[u32], offs: &[i64]) -> bool
+pub(crate) fn other_offset(
+    t1: TermNumber,
+    z: i64,
+    t2: TermNumber,
+    reps: &[u32],
+    offs: &[i64],
+) -> bool
     requires { ⌜ Against (now reps) (now offs) (t1 .0) z (t2 .0) ⌝ }
     ensures { λ r. ⌜ r ≡ otherOffset (view (before reps) (before offs)) (t1 .0) z (t2 .0) ⌝ }
 {

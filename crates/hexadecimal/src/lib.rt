@@ -9,13 +9,13 @@ ghost use Rattle.text.specs.Lines.{digit, digitOf, bytesOf, big, signed};
 ghost use Rattle.hexadecimal.specs.Spelling.{spelled, pairByte};
 
 // The value of one digit, or of two.
-pub enum Spelled {
+pub(crate) enum Spelled {
     Value(u8),
     Bad,
 }
 
 // The value of a digit: 0 to 9, A to F.
-pub fn digit(c: u8) -> Spelled
+fn digit(c: u8) -> Spelled
     ensures { λ r. ⌜ r ≡ spelled (digit c) ⌝ }
 {
     match c {

@@ -318,7 +318,7 @@ fn look_by_order(
 }
 
 // Two dereferences that read one address and have different labels, the first neighbours in an order of the dereferences by class and
-// address. Public for the crate `consistency`.
+// address. Public for the crate `congruence`.
 pub fn unequal_pair(terms: &[TermRow], representatives: &[u32], offsets: &[i64]) -> Look
     requires { ⌜ Labelled (now terms) (now representatives) (now offsets) ⌝ }
     ensures { λ r. ⌜ Looked (length (before terms)) (termAt (before terms)) (view (before representatives) (before offsets)) r ⌝ }

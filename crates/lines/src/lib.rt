@@ -1,4 +1,4 @@
-// What one line of hexadecimal says, whatever stands in the other lines.
+// What one line of hexadecimal says, whatever stands in the other lines. Public for the crates `frames` and `reader`.
 pub mod line;
 
 use types::PropositionRecord;

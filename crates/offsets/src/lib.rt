@@ -1,5 +1,6 @@
 // Offsets: summed, negated and compared in 64 bits, where no sum within the limits wraps.
-// Each function is exact on whole numbers. They are public for the sister crates.
+// Each function is exact on whole numbers. Public for the crates `tables`, `unionfind`, `lastlook`, `uselists`, `joins`, `consistency`,
+// `differences`, `questions`, `columns`, `refusals` and `writer`.
 
 ghost use mathlib.Core.Path.{_≡_};
 ghost use lib.IntN.{ℤ, _+ℤ_, _-ℤ_, negℤ};

@@ -5,7 +5,7 @@ ghost use lib.ListN.{length};
 ghost use Rattle.lists.specs.Lent.{before, after};
 ghost use Rattle.pairbits.specs.Bits.{isSet, withBit};
 
-// Sets bit i. Public for the crate that fills the pair table, which knows that the table holds the bit.
+// Sets bit i. The caller knows that the table holds it.
 pub fn set_bit(bytes: &mut [u8], i: usize)
     requires { ⌜ i / 8 < length (now bytes) ⌝ }
     ensures { λ _. ⌜ after bytes ≡ withBit (before bytes) i ⌝ }
@@ -14,7 +14,7 @@ pub fn set_bit(bytes: &mut [u8], i: usize)
     bytes[k] = bytes[k] | (1u8 << (i % 8));
 }
 
-// Whether bit i is 1. Public for the crate that reads the pair table.
+// Whether bit i is 1.
 pub fn test_bit(bytes: &[u8], i: usize) -> bool
     requires { ⌜ i / 8 < length (now bytes) ⌝ }
     ensures { λ r. ⌜ r ≡ isSet (before bytes) i ⌝ }

@@ -84,6 +84,7 @@ pub fn read(
 }
 
 // Where the faulty line of a text stands, without its LF, for tables with room for so many records; on success an empty part at the start.
+// Public for the crate `bucketmonk_c`, which cannot return a part of a text.
 pub fn faulty_part(text: &[u8], terms: usize, propositions: usize, questions: usize) -> FaultyPart
     ensures { λ r. ⌜ PartAt (before text) r (faultyPart (before text) terms propositions questions) ⌝ }
 {

@@ -6,14 +6,14 @@ ghost use lib.Dec.{leb};
 ghost use Rattle.tables.specs.Records.{offsetInRange};
 
 // Whether 32 bits hold an offset.
-pub fn in_range(z: i64) -> bool
+pub(crate) fn in_range(z: i64) -> bool
     ensures { λ r. ⌜ r ≡ offsetInRange z ⌝ }
 {
     (z < OFFSETS) & (-OFFSETS <= z)
 }
 
 // Whether one of two numbers names none of n terms.
-pub fn unlisted(n: usize, left: u64, right: u64) -> bool
+pub(crate) fn unlisted(n: usize, left: u64, right: u64) -> bool
     ensures { λ r. ⌜ r ≡ (leb n left || leb n right) ⌝ }
 {
     (n <= left as usize) | (n <= right as usize)

@@ -48,7 +48,7 @@ fn judge_proposition(n: usize, r: PropositionRecord, p: PropositionNumber) -> Ac
 }
 
 // The first refusal of the propositions, with n terms listed.
-pub fn check_propositions(n: usize, propositions: &[PropositionRow]) -> Acceptance
+pub(crate) fn check_propositions(n: usize, propositions: &[PropositionRow]) -> Acceptance
     ensures { λ r. ⌜ r ≡ acceptance (propositionsFault n (length (before propositions)) (propositionAt (before propositions))) ⌝ }
 {
     for i in 0..propositions.len() {

@@ -32,7 +32,7 @@ fn judge_question(n: usize, r: QuestionRecord, q: QuestionNumber) -> Acceptance
 }
 
 // The first refusal of the questions, with n terms listed.
-pub fn check_questions(n: usize, questions: &[QuestionRow]) -> Acceptance
+pub(crate) fn check_questions(n: usize, questions: &[QuestionRow]) -> Acceptance
     ensures { λ r. ⌜ r ≡ acceptance (questionsFault n (length (before questions)) (questionAt (before questions))) ⌝ }
 {
     for i in 0..questions.len() {

@@ -79,7 +79,7 @@ fn first_repeat(terms: &[TermRow]) -> usize
 }
 
 // The first refusal of the term records. At one place 9 and 4 come before 5.
-pub fn check_terms(terms: &[TermRow]) -> Acceptance
+pub(crate) fn check_terms(terms: &[TermRow]) -> Acceptance
     ensures { λ r. ⌜ r ≡ acceptance (termsFault (length (before terms)) (termAt (before terms))) ⌝ }
 {
     let repeat = first_repeat(terms);

@@ -1,4 +1,4 @@
-// The types of the library's answers. specs/Numbers.antt gives the numbers of paper 01 for each case.
+// The types of the library's answers, for all crates. specs/Numbers.antt gives the numbers of paper 01 for each case.
 ghost use mathlib.Core.Path.{_≡_};
 ghost use Rattle.types.specs.Numbers.{answerNumber, refusalNumber};
 
@@ -127,21 +127,21 @@ pub struct PropositionNumber(pub usize);
 // A number in the table of questions.
 pub struct QuestionNumber(pub usize);
 
-// The number that a record names, as an index.
+// The number that a record names, as an index. Public for the crates `lastlook`, `joins`, `congruence`, `consistency` and `columns`.
 pub fn index(number: u64) -> usize
     ensures { λ r. ⌜ r ≡ number ⌝ }
 {
     number as usize
 }
 
-// A refusal at a place.
+// A refusal at a place. Public for the crates `refusals` and `memory`.
 pub fn refuse(refusal: Refusal, place: usize) -> Acceptance
     ensures { λ a. ⌜ a ≡ Acceptance.Refused (record { refusal = refusal; place = place }) ⌝ }
 {
     Acceptance::Refused(Fault { refusal, place })
 }
 
-// The number of an answer.
+// The number of an answer. Public for the crates `columns` and `solver`.
 pub fn answer_number(a: Answer) -> u8
     ensures { λ k. ⌜ k ≡ answerNumber a ⌝ }
 {
@@ -153,7 +153,7 @@ pub fn answer_number(a: Answer) -> u8
     }
 }
 
-// The number of a refusal.
+// The number of a refusal. Public for the crates `numbers` and `writer`.
 pub fn refusal_number(r: Refusal) -> u8
     ensures { λ k. ⌜ k ≡ refusalNumber r ⌝ }
 {

@@ -1,6 +1,6 @@
 // A union-find with offsets. A term's link leads to one of a lower number in its class, or to itself: so the root of a class is its
-// lowest term, and every path ends. `Links` says what the columns keep, `flat` which labels they stand for. The functions are public for
-// the crate `consistency`.
+// lowest term, and every path ends. `Links` says what the columns keep, `flat` which labels they stand for. Public for the
+// crates `joins`, `congruence`, `consistency` and `solver`.
 
 use offsets::difference;
 use offsets::is_same;

@@ -1,6 +1,6 @@
 // Use lists, where congruence closure looks for joins: for each class the dereferences over it, those to look at next, and a table from
 // addresses to dereferences. Nothing here is relied on: what it says is tested before it is used, so it promises no more than ranges.
-// Public for the crate `congruence`.
+// Public for the crates `joins` and `congruence`.
 use offsets::bits;
 use std::num::wrapping_add_u64;
 use std::num::wrapping_sub_u64;
