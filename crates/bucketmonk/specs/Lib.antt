@@ -1,2 +1,3 @@
--- How many bytes came from standard input.
-pub mod Input
+-- How many bytes a call moved, and what an argument asks for.
+pub mod Arguments
+pub mod Calls

@@ -1,13 +1,13 @@
--- `bucketmonk::main` meets its contract.
+-- `bucketmonk::answer_input` meets its contract.
 use mathlib.Core.Path.{sym}
 use lib.Seq.{length-take-le}
 use borrow.Author.Needs.{needs}
-use Rattle.bucketmonk.proofs.main.Statement.{statement}
-use Rattle.bucketmonk.proofs.main.Tie as tie
-use Rattle.bucketmonk.proofs.main.Reads as reads
-use Rattle.bucketmonk.proofs.main.Lts as lts
+use Rattle.bucketmonk.proofs.answer_input.Statement.{statement}
+use Rattle.bucketmonk.proofs.answer_input.Tie as tie
+use Rattle.bucketmonk.proofs.answer_input.Reads as reads
+use Rattle.bucketmonk.proofs.answer_input.Lts as lts
 use Rattle.bucketmonk.proofs.answer.Reads as answer-reads
-use Rattle.bucketmonk.proofs.read_input.Reads as read-input-reads
+use Rattle.bucketmonk.proofs.calls.read_input.Reads as read-input-reads
 use Rattle.os.proofs.fail.Reads as fail-reads
 
 array-share-prefix-text : tie.Need-array-share-prefix-text
@@ -16,8 +16,8 @@ array-share-prefix-text c = rw (c .before .n .given .1) at (c .before .before .b
 slice-aggregate-answer : tie.Need-slice-aggregate-answer
 slice-aggregate-answer c = sym (length-take-le _ _ (rw (c .before .before .n .given .1) at (c .before .before .before .before .before .read-input .ensures)))
 
-pub main-spec : {M : Type 1} → statement M
-main-spec =
+pub answer-input-spec : {M : Type 1} → statement M
+answer-input-spec =
     tie.close
     (tie.spec
     (λ c. search needs)
