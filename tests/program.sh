@@ -1,7 +1,7 @@
 #!/usr/bin/env bash
 # Tests the program: bash tests/program.sh PROGRAM. Last line: "N passed, M failed".
 # Every run ends within 10 seconds or has failed. A run that succeeds has status 0 and writes nothing to standard error; one whose reading
-# or writing fails tells why there (its status is 0 too: docs/DECISIONS.md, 19).
+# or writing fails, or whose arguments are refused, tells why there (its status is 0 too: docs/DECISIONS.md, 19).
 set -u
 export LC_ALL=C
 . "$(dirname "$0")/counting.sh" || exit 2
@@ -256,6 +256,149 @@ for stopped in no yes; do
   wait $!
   wrote "a pipe almost full, stopped: $stopped" "$(cat "$work/status")" "$work/full.out"
   rm -f "$work/pid" "$work/status"
+done
+
+# Arguments.
+# given NAME EXPECTED TOLD ARGUMENT..: a run with these arguments wrote the file EXPECTED, told the file TOLD and read nothing
+given() {
+  local name=$1 expected=$2 told=$3 status
+  shift 3
+  { timeout 10 "$program" "$@" >"$out" 2>"$err"; status=$?; cat >"$work/unread"; } <whole.txt
+  if [ $status -ne 0 ]; then
+    fail "$name: status $status"
+  elif ! cmp -s "$out" "$expected"; then
+    fail "$name: writes $(head -c 60 "$out")"
+  elif ! cmp -s "$err" "$told"; then
+    fail "$name: tells $(head -n 1 "$err" | head -c 120)"
+  elif ! cmp -s "$work/unread" whole.txt; then
+    fail "$name: reads its input"
+  else
+    pass
+  fi
+}
+# unknown NAME ARGUMENT [SHOWN]: the message names an argument that is not known, or as much of it as is shown
+unknown() {
+  says "$work/told" "bucketmonk: unknown argument: ${3-$2}" 'try bucketmonk --help'
+  given "$1" /dev/null "$work/told" "$2"
+}
+says "$work/version" 'bucketmonk 0.1.0'
+given "--version" "$work/version" /dev/null --version
+timeout 10 "$program" --help </dev/null >"$work/help"
+given "--help" "$work/help" /dev/null --help
+says "$work/usage" 'usage: bucketmonk <TEXT' '       bucketmonk --help' '       bucketmonk --version'
+if head -n 3 "$work/help" | cmp -s - "$work/usage"; then pass; else fail "--help: the first lines"; fi
+for part in 'standard input' 'standard output' 'standard error' 512 32,768 README.md 'exit status'; do
+  if grep -qF -- "$part" "$work/help"; then pass; else fail "--help: no word of $part"; fi
+done
+if [ "$(wc -L <"$work/help")" -le 80 ]; then pass; else fail "--help: long lines"; fi
+for argument in x '' - -- -h -help --Help --hel --helpp --help= ' --help' '--help ' $'--help\n' --versio --versions whole.txt; do
+  unknown "the argument '$argument'" "$argument"
+done
+unknown "an argument that is no UTF-8" $'\xff\xc3\x28--help\x80'
+long=$(head -c 100000 /dev/zero | tr '\0' a)
+for length in 63 64 65 4096 100000; do
+  unknown "an argument of $length bytes" "${long:0:length}" "${long:0:length < 64 ? length : 64}"
+done
+unknown "a long argument that begins with --help" "--help$long" "--help${long:0:58}"
+says "$work/several" 'bucketmonk: more than one argument' 'try bucketmonk --help'
+given "--help and another" /dev/null "$work/several" --help x
+given "--help twice" /dev/null "$work/several" --help --help
+given "another and --version" /dev/null "$work/several" x --version
+given "two empty arguments" /dev/null "$work/several" '' ''
+given "three long arguments" /dev/null "$work/several" "$long" "$long" "$long"
+for argument in --help --version; do
+  timeout 10 "$program" "$argument" </dev/null >/dev/full 2>"$err"
+  broke "/dev/full, $argument" $? told
+  timeout 10 "$program" "$argument" </dev/null >&- 2>"$err"
+  broke "standard output closed, $argument" $? told
+done
+timeout 10 "$program" x <whole.txt >"$out" 2>&-
+status=$?
+if [ $status -eq 0 ] && [ ! -s "$out" ]; then pass; else fail "an unknown argument, standard error closed: status $status"; fi
+
+# Calls that are interrupted, that move a part, that fail (tests/interposed.c).
+cc -std=c99 -Wall -Wextra -Werror -O2 -shared -fPIC ../../tests/interposed.c -o "$work/interposed.so" || fail "interposed.c is not compiled"
+# calls READ WRITE ARGUMENT..: the program, with what its reads and writes do
+calls() {
+  local reads=$1 writes=$2
+  shift 2
+  timeout 10 env LD_PRELOAD="$work/interposed.so" READ="$reads" WRITE="$writes" "$program" "$@"
+}
+# told NAME MESSAGE SIZE EXPECTED: a run told this message, and wrote so many bytes from the start of the file EXPECTED
+told() {
+  if [ "$(cat "$err")" != "$2" ]; then
+    fail "$1: tells '$(head -n 1 "$err")'"
+  elif ! cmp -s "$out" <(head -c "$3" "$4"); then
+    fail "$1: writes $(head -c 60 "$out")"
+  else
+    pass
+  fi
+}
+printf -v often 'i%.0s' {1..5000}
+printf -v short 's%.0s' {1..5000}
+printf -v both 'is%.0s' {1..5000}
+for text in whole.txt refused_10.txt "$work/full.txt"; do
+  for letters in i iii s sisi "$often" "$short" "$both"; do
+    name="${text##*/}, calls ${letters:0:10}"
+    calls "$letters" '' <"$text" >"$out" 2>"$err"
+    wrote "$name, reads" $? "${text%.txt}.out"
+    calls '' "$letters" <"$text" >"$out" 2>"$err"
+    wrote "$name, writes" $? "${text%.txt}.out"
+    calls "$letters" "$letters" <"$text" >"$out" 2>"$err"
+    wrote "$name, both" $? "${text%.txt}.out"
+  done
+done
+for letters in e ie iiie se sie siiie; do
+  calls "$letters" '' <whole.txt >"$out" 2>"$err"
+  told "reads $letters" 'stdin: Input/output error' 0 whole.out
+  size=0
+  case $letters in s*) size=7 ;; esac
+  calls '' "$letters" <whole.txt >"$out" 2>"$err"
+  told "writes $letters" 'stdout: Input/output error' $size whole.out
+done
+for letters in iii sisi; do
+  for argument in help version; do
+    calls '' "$letters" "--$argument" </dev/null >"$out" 2>"$err"
+    wrote "--$argument, writes $letters" $? "$work/$argument"
+  done
+  calls '' "$letters$letters$letters" x </dev/null >"$out" 2>"$err"
+  told "an unknown argument, writes $letters" $'bucketmonk: unknown argument: x\ntry bucketmonk --help' 0 /dev/null
+done
+
+# Signals that interrupt a read or a write that waits.
+# started: the program, with a handler of SIGUSR1; $work/pid has its number, $work/log what tests/interposed.c tells
+started() {
+  timeout 10 bash -c 'echo $$ >"$1/pid" && exec env LD_PRELOAD="$1/interposed.so" LOG="$1/log" "$2"' - "$work" "$program"
+}
+# prod: signals to the program once it has started, until they have interrupted three calls more, or for 4 seconds
+prod() {
+  local k before
+  touch "$work/log"
+  before=$(grep -c interrupted "$work/log")
+  for ((k = 0; k < 200 && $(grep -c interrupted "$work/log") < before + 3; k++)); do
+    if [ -s "$work/log" ]; then kill -USR1 "$(cat "$work/pid")" 2>/dev/null; fi
+    sleep 0.02
+  done
+}
+# interrupted NAME COUNT: signals interrupted so many calls of the last run or more
+interrupted() {
+  local count
+  count=$(grep -c interrupted "$work/log")
+  if [ "$count" -ge "$2" ]; then pass; else fail "$1: $count calls were interrupted"; fi
+  rm -f "$work/pid" "$work/log"
+}
+{ prod; head -c 50 whole.txt; prod; tail -c +51 whole.txt; } | started >"$out" 2>"$err"
+wrote "reads that signals interrupt" "${PIPESTATUS[1]}" whole.out
+interrupted "reads that signals interrupt" 6
+# a full pipe, and one that has room for a part
+for filled in 65536 60000; do
+  {
+    head -c $filled /dev/zero
+    started <"$work/full.txt" 2>"$err"
+    echo $? >"$work/status"
+  } | { prod; tail -c +$((filled + 1)); } >"$out"
+  wrote "writes that signals interrupt, $filled bytes in the pipe" "$(cat "$work/status")" "$work/full.out"
+  interrupted "writes, $filled bytes in the pipe" 3
 done
 
 # Nothing but the input counts: twice, elsewhere, without environment, two at a time.

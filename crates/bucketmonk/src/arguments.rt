@@ -53,9 +53,11 @@ fn put_help() {
         \x20      bucketmonk --help\n\
         \x20      bucketmonk --version\n\
         Reads terms, propositions and questions of 2-pointer logic from standard input,\n\
-        one frame a line in hexadecimal: at most 512 of each, at most 32,768 bytes.\n\
+        one frame a line in hexadecimal, at most 512 of each. Only the first 32,768\n\
+        bytes are read, more than an accepted text has.\n\
         Writes to standard output, one frame a line: the verdict, the labels or the\n\
-        blame, and the answers; or why the text is refused. README.md has the frames.\n\
+        blame, and the answers; or why the text is refused.\n\
+        README.md describes the frames.\n\
         Where a read or a write fails, standard error tells why. No answer is empty:\n\
         an empty output is a failure. The exit status is always 0.\n",
     );
