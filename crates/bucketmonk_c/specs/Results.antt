@@ -7,7 +7,7 @@ use Rattle.types.specs.declared.Fault.{Fault}
 use Rattle.types.specs.declared.Counts.{Counts}
 use Rattle.types.specs.declared.Solved.{Solved}
 use Rattle.types.specs.declared.ReadResult.{ReadResult}
-use Rattle.numbers.specs.Numbers.{solvedNumber, readNumber, Tells, TellsRead, TellsCounts, solved-tells, refused-tells, accepted-tells}
+use Rattle.numbers.specs.Numbers.{solvedNumber, readNumber, Tells, TellsCounts, solved-tells, refused-tells, accepted-tells}
 use Rattle.tables.specs.Limits.{most}
 use Rattle.tables.specs.TableFaults.{Tables}
 use Rattle.tables.specs.Memory.{Memory}
@@ -32,19 +32,19 @@ pub record ReadNumber (text : List ℕ) (C : Rows) (r : ℕ) (D : Rows) : Type 0
   pub read : ReadAs text C result D
 
 -- The number tells a refusal whole: of `solve`, of `verdict`,
-pub solve-tells : (T : Tables) (M N : Memory) (r : ℕ) (A : AnsweredNumber T M N r) (f : Fault) → A .solved ≡ Solved.Refused f → Tells r f
+pub solve-tells : (T : Tables) (M N : Memory) (r : ℕ) (A : AnsweredNumber T M N r) (f : Fault) → A .solved ≡ Solved.Refused f → Tells 16 r f
 solve-tells T M N r A f e =
     let p = call-place T M f (refused-exactly T M N (A .solved) (A .answered) f .0 e) in
     rw (A .number, e) (solved-tells f (omega arith))
 
-pub verdict-tells : (T : Tables) (f : Fault) → verdictOf T ≡ Solved.Refused f → Tells (solvedNumber (verdictOf T)) f
+pub verdict-tells : (T : Tables) (f : Fault) → verdictOf T ≡ Solved.Refused f → Tells 16 (solvedNumber (verdictOf T)) f
 verdict-tells T f e =
     let p = tables-place most T f (verdict-refused-exactly T f .0 e) in
     rw e (solved-tells f (omega arith))
 
 -- and of `read`; or the counts.
 module _ (text : List ℕ) (C D : Rows) (r : ℕ) (A : ReadNumber text C r D) where
-  pub read-tells : (f : Fault) → A .result ≡ ReadResult.Refused f → TellsRead r f
+  pub read-tells : (f : Fault) → A .result ≡ ReadResult.Refused f → Tells 48 r f
   read-tells f e =
       let p = read-place text C D f (rw e at (A .read)) in
       rw (A .number, e) (refused-tells f (omega arith))

@@ -2,15 +2,17 @@
 use Prim.Native.Nat.{ℕ}
 use mathlib.Core.Path.{_≡_, sym, _∙_, ap}
 use mathlib.Core.Bool.{false}
-use mathlib.Core.List.{List}
+use mathlib.Core.List.{List, _++_}
+use mathlib.Core.Option.{none}
+use lib.ListN.{take}
 use Rattle.types.specs.declared.Fault.{Fault}
 use Rattle.types.specs.declared.Counts.{Counts}
 use Rattle.types.specs.declared.Verdict.{Verdict}
 use Rattle.types.specs.declared.Solved.{Solved}
 use Rattle.types.specs.declared.ReadResult.{ReadResult}
 use Rattle.tables.specs.TableFaults.{Tables}
-use Rattle.tables.specs.Memory.{Memory, EnoughFor, call-accepted}
-use Rattle.text.specs.Output.{outcomeFrames, refusalFrame, output}
+use Rattle.tables.specs.Memory.{Memory, memoryFault, call-accepted}
+use Rattle.text.specs.Output.{verdictFrame, labelFrames, blameFrames, answerFrames, outcomeFrames, refusalFrame, output}
 use Rattle.text.specs.Size.{output-all}
 use Rattle.frames.specs.Rows.{Rows}
 use Rattle.reader.specs.Answers.{shortRows, ReadAs}
@@ -25,12 +27,20 @@ module _ (text : List ℕ) (C D : Rows) (r : ReadResult) (A : ReadAs text C r D)
   output-refused room f e = output-all text ∙ refused-frames text C r D A room f e
 
   -- an accepted one those of what `solve` leaves for its tables
-  module _ (c : Counts) (e : r ≡ ReadResult.Accepted c) (M N : Memory) (s : Solved) (B : Answered (readTables c D) M N s) (enough : EnoughFor (readTables c D) M) where
+  module _ (c : Counts) (e : r ≡ ReadResult.Accepted c) (M N : Memory) (s : Solved) (B : Answered (readTables c D) M N s) (room : memoryFault (readTables c D) M ≡ none) where
     abbrev T : Tables
     T = readTables c D
 
-    pub output-accepted : (v : Verdict) → s ≡ solvedBy v → output text ≡ outcomeFrames (used (readTables c D) v N)
-    output-accepted v is =
+    output-is : (v : Verdict) → s ≡ solvedBy v → output text ≡ outcomeFrames (used T v N)
+    output-is v is =
         output-all text
         ∙ accepted-frames text C r D A c e
-        ∙ ap outcomeFrames (sym (used-run T M N s B (call-accepted T M (accepted-tables text C r D A c e) enough) v is))
+        ∙ ap outcomeFrames (sym (used-run T M N s B (call-accepted T M (accepted-tables text C r D A c e) room) v is))
+
+    pub output-satisfiable : s ≡ Solved.Satisfiable → output text ≡ verdictFrame Verdict.Satisfiable ++ (labelFrames 0 (take (c .terms) (N .representatives)) (take (c .terms) (N .offsets)) ++ answerFrames (take (c .questions) (N .answers)))
+    unfolding outcomeFrames
+    output-satisfiable is = output-is Verdict.Satisfiable is
+
+    pub output-contradiction : s ≡ Solved.Contradiction → output text ≡ verdictFrame Verdict.Contradiction ++ (blameFrames (take (c .propositions) (N .marks)) ++ answerFrames (take (c .questions) (N .answers)))
+    unfolding outcomeFrames
+    output-contradiction is = output-is Verdict.Contradiction is

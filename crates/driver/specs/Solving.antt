@@ -19,7 +19,7 @@ use Rattle.tables.specs.TermTable.{length-terms-from}
 use Rattle.tables.specs.PropositionTable.{length-propositions-from}
 use Rattle.tables.specs.QuestionTable.{length-questions-from}
 use Rattle.tables.specs.TableFaults.{Tables, Sized, sized, sizesFault, recordsFault, tablesFault}
-use Rattle.tables.specs.Memory.{Memory, memoryOf, callFault, EnoughFor, Beyond, call-accepted}
+use Rattle.tables.specs.Memory.{Memory, memoryOf, callFault, EnoughFor, Beyond, no-memory-fault, call-accepted}
 use Rattle.text.specs.Output.{labelFrames, blameFrames, middle, outcomeFrames}
 use Rattle.text.specs.OutputSize.{largestOutput, outcome-size}
 use Rattle.writer.specs.Frames.{setFrames}
@@ -59,7 +59,7 @@ module _ (T : Tables) (accepted : tablesFault most T ≡ none) where
       }
 
   no-fault : callFault T zeroMemory ≡ none
-  no-fault = call-accepted T zeroMemory accepted enough
+  no-fault = call-accepted T zeroMemory accepted (no-memory-fault T zeroMemory enough)
 
   length-terms : length (termsOf T) ≡ T .terms .count
   length-terms = length-terms-from (T .terms .count) (termAt (T .terms .rows))

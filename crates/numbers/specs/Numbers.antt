@@ -34,15 +34,10 @@ refusal-small Refusal.TooShort = omega arith
 refusal-small Refusal.Malformed = omega arith
 refusal-small Refusal.GroupOrder = omega arith
 
--- A number tells a refusal and its place: of `solve` and `verdict`,
-pub record Tells (n : ℕ) (f : Fault) : Type 0 where
-  pub refusal : n / 2 ^ 16 ≡ refusalNumber (f .refusal)
-  pub place : n % 2 ^ 16 ≡ f .place
-
--- of `read`,
-pub record TellsRead (n : ℕ) (f : Fault) : Type 0 where
-  pub refusal : n / 2 ^ 48 ≡ refusalNumber (f .refusal)
-  pub place : n % 2 ^ 48 ≡ f .place
+-- A number tells a refusal and its place, in the bits from w on and below: w is 16 for `solve` and `verdict`, 48 for `read`,
+pub record Tells (w n : ℕ) (f : Fault) : Type 0 where
+  pub refusal : n / 2 ^ w ≡ refusalNumber (f .refusal)
+  pub place : n % 2 ^ w ≡ f .place
 
 -- or the counts of an accepted text.
 pub record TellsCounts (n : ℕ) (c : Counts) : Type 0 where
@@ -51,10 +46,10 @@ pub record TellsCounts (n : ℕ) (c : Counts) : Type 0 where
   pub propositions : n / 2 ^ 16 % 2 ^ 16 ≡ c .propositions
   pub questions : n % 2 ^ 16 ≡ c .questions
 
-pub solved-tells : (f : Fault) → f .place < 2 ^ 16 → Tells (solvedNumber (Solved.Refused f)) f
+pub solved-tells : (f : Fault) → f .place < 2 ^ 16 → Tells 16 (solvedNumber (Solved.Refused f)) f
 solved-tells f h = record { refusal = omega arith; place = omega arith }
 
-pub refused-tells : (f : Fault) → f .place < 2 ^ 48 → TellsRead (readNumber (ReadResult.Refused f)) f
+pub refused-tells : (f : Fault) → f .place < 2 ^ 48 → Tells 48 (readNumber (ReadResult.Refused f)) f
 refused-tells f h = record { refusal = omega arith; place = omega arith }
 
 pub accepted-tells : (c : Counts) → c .terms < 2 ^ 16 → c .propositions < 2 ^ 16 → c .questions < 2 ^ 16 → TellsCounts (readNumber (ReadResult.Accepted c)) c

@@ -35,12 +35,11 @@ module _ (T : Tables) (M N : Memory) (r : Solved) (A : Answered T M N r) where
 verdict-answers : (T : Tables) → ((f : Fault) → verdictOf T ≡ Solved.Refused f ↔ (tablesFault most T ≡ some f)) × (tablesFault most T ≡ none → (verdictOf T ≡ Solved.Satisfiable) ⊎ (verdictOf T ≡ Solved.Contradiction))
 verdict-answers T = (solver.verdict-refused-exactly T, solver.verdict-else T)
 
-verdict-same : (T : Tables) (M N : Memory) (r : Solved) → Answered T M N r → EnoughFor T M → r ≡ verdictOf T
+verdict-same : (T : Tables) (M N : Memory) (r : Solved) → Answered T M N r → memoryFault T M ≡ none → r ≡ verdictOf T
 verdict-same = solver.solve-agrees
 
--- Every text gets an answer.
+-- Every text gets an answer: 8 where a table has room for less than 512 records, else the text decides.
 module _ (text : List ℕ) (C D : Rows) (r : ReadResult) (A : ReadAs text C r D) where
-  -- 8 where a table has room for less than 512 records; else the text decides
   read-short : shortRows C ≡ true → r ≡ ReadResult.Refused tableTooShort
   read-short = reads.short-refused text C D r A
 
@@ -57,8 +56,12 @@ module _ (text : List ℕ) (C D : Rows) (r : ReadResult) (A : ReadAs text C r D)
   output-refused : shortRows C ≡ false → (f : Fault) → r ≡ ReadResult.Refused f → output text ≡ refusalFrame f
   output-refused = program.output-refused text C D r A
 
-  output-accepted : (c : Counts) → r ≡ ReadResult.Accepted c → (M N : Memory) (s : Solved) → Answered (readTables c D) M N s → EnoughFor (readTables c D) M → (v : Verdict) → s ≡ solvedBy v → output text ≡ outcomeFrames (used (readTables c D) v N)
-  output-accepted = program.output-accepted text C D r A
+  module _ (c : Counts) (e : r ≡ ReadResult.Accepted c) (M N : Memory) (s : Solved) (B : Answered (readTables c D) M N s) (room : memoryFault (readTables c D) M ≡ none) where
+    output-satisfiable : s ≡ Solved.Satisfiable → output text ≡ verdictFrame Verdict.Satisfiable ++ (labelFrames 0 (take (c .terms) (N .representatives)) (take (c .terms) (N .offsets)) ++ answerFrames (take (c .questions) (N .answers)))
+    output-satisfiable = program.output-satisfiable text C D r A c e M N s B room
+
+    output-contradiction : s ≡ Solved.Contradiction → output text ≡ verdictFrame Verdict.Contradiction ++ (blameFrames (take (c .propositions) (N .marks)) ++ answerFrames (take (c .questions) (N .answers)))
+    output-contradiction = program.output-contradiction text C D r A c e M N s B room
 
 -- `solve` does not refuse the rows of an accepted text
 accepted-passes : (text : List ℕ) (C : Rows) (c : Counts) (D : Rows) → ReadAs text C (ReadResult.Accepted c) D → tablesFault most (readTables c D) ≡ none
@@ -72,11 +75,8 @@ faulty-characters : (text : List ℕ) (f : Fault) → reading text ≡ refused f
 faulty-characters = part-characters
 
 -- the output is written if there is room for the largest one, else nothing; no output is empty or larger; more than the judged bytes do not matter
-output-written : (text old : List ℕ) (n : ℕ) (new : List ℕ) → WritesOutput text old n new → largestOutput ≤ length old → (n ≡ length (output text)) × (new ≡ overwrite (output text) old)
-output-written = written.written-all
-
-output-unwritten : (text old : List ℕ) (n : ℕ) (new : List ℕ) → WritesOutput text old n new → length old < largestOutput → (n ≡ 0) × (new ≡ old)
-output-unwritten = written.written-none
+output-written : (text old : List ℕ) (n : ℕ) (new : List ℕ) → WritesOutput text old n new → (largestOutput ≤ length old → (n ≡ length (output text)) × (new ≡ overwrite (output text) old)) × (length old < largestOutput → (n ≡ 0) × (new ≡ old))
+output-written text old n new w = (written.written-all text old n new w, written.written-none text old n new w)
 
 output-length : (text : List ℕ) → (0 < length (output text)) × (length (output text) ≤ largestOutput)
 output-length text = (output-some text, output-size text)
@@ -85,13 +85,13 @@ enough-judged : (text : List ℕ) → reading (take judged text) ≡ reading tex
 enough-judged = judged-enough
 
 -- The numbers for C tell a refusal and its place, or the counts, exactly.
-solve-number : (T : Tables) (M N : Memory) (r : ℕ) (A : AnsweredNumber T M N r) (f : Fault) → A .solved ≡ Solved.Refused f → Tells r f
+solve-number : (T : Tables) (M N : Memory) (r : ℕ) (A : AnsweredNumber T M N r) (f : Fault) → A .solved ≡ Solved.Refused f → Tells 16 r f
 solve-number = numbers.solve-tells
 
-verdict-number : (T : Tables) (f : Fault) → verdictOf T ≡ Solved.Refused f → Tells (solvedNumber (verdictOf T)) f
+verdict-number : (T : Tables) (f : Fault) → verdictOf T ≡ Solved.Refused f → Tells 16 (solvedNumber (verdictOf T)) f
 verdict-number = numbers.verdict-tells
 
-read-number : (text : List ℕ) (C D : Rows) (r : ℕ) (A : ReadNumber text C r D) (f : Fault) → A .result ≡ ReadResult.Refused f → TellsRead r f
+read-number : (text : List ℕ) (C D : Rows) (r : ℕ) (A : ReadNumber text C r D) (f : Fault) → A .result ≡ ReadResult.Refused f → Tells 48 r f
 read-number = numbers.read-tells
 
 read-number-counts : (text : List ℕ) (C D : Rows) (r : ℕ) (A : ReadNumber text C r D) (c : Counts) → A .result ≡ ReadResult.Accepted c → TellsCounts r c

@@ -37,7 +37,7 @@ use Rattle.tables.specs.PropositionTable.{well-formed-from, bounded-from, lengt
 use Rattle.tables.specs.QuestionTable.{question-sides, length-questions-from}
 use Rattle.tables.specs.TableFaults as faults
 use Rattle.tables.specs.TableFaults.{Tables, sizesFault, recordsFault, tablesFault, Accepted, unrefused}
-use Rattle.tables.specs.Memory.{Memory, callFault, EnoughFor, Beyond, no-memory-fault, passed, memoryWith}
+use Rattle.tables.specs.Memory.{Memory, callFault, memoryFault, Beyond, passed, memoryWith}
 use Rattle.solver.specs.Call.{termsOf, propositionsOf, questionsOf, run, run-lengths, used, solvedBy, returned, Answered, unasked, verdictOf}
 use Rattle.solver.specs.Verdict.{verdict-when}
 
@@ -321,9 +321,9 @@ module _ (T : Tables) (M N : Memory) (r : Solved) (A : Answered T M N r) where
   answered-else e = rw (A .returns, e) (solved-either (run T .verdict))
 
 -- `solve` returns what `verdict` returns for the tables, accepted or refused, if the lent memory is enough
-pub solve-agrees : (T : Tables) (M N : Memory) (r : Solved) → Answered T M N r → EnoughFor T M → r ≡ verdictOf T
+pub solve-agrees : (T : Tables) (M N : Memory) (r : Solved) → Answered T M N r → memoryFault T M ≡ none → r ≡ verdictOf T
 unfolding callFault tablesFault verdictOf
-solve-agrees T M N r A enough = rw (no-memory-fault T M enough) at (A .returns)
+solve-agrees T M N r A room = rw room at (A .returns)
 
 -- and an accepted call with questions returns the verdict on the set without them
 module _ (T : Tables) (M N : Memory) (r : Solved) (A : Answered T M N r) (accepted : callFault T M ≡ none) where

@@ -40,12 +40,8 @@ roomFault n m q representatives offsets marks pairs answers =
 
 abbrev pub memoryFault : Tables → Memory → Option Fault
 memoryFault T M =
-    roomFault (T .terms .count) (T .propositions .count) (T .questions .count)
-    (length (M .representatives))
-    (length (M .offsets))
-    (length (M .marks))
-    (length (M .pairs))
-    (length (M .answers))
+    roomFault (T .terms .count) (T .propositions .count) (T .questions .count) (length (M .representatives)) (length (M .offsets))
+    (length (M .marks)) (length (M .pairs)) (length (M .answers))
 
 -- the refusals of a call in their order: the tables' sizes, the memory, the records
 unfoldable pub callFault : Tables → Memory → Option Fault
@@ -112,11 +108,11 @@ call-unrefused T M p =
     both-none _ _ (sizes-pass most T (p .sized)) (both-none _ _ (no-memory-fault T M (p .enough)) (records-pass T (p .accepted)))
 
 -- tables that are not refused, with enough memory
-pub call-accepted : (T : Tables) (M : Memory) → tablesFault most T ≡ none → EnoughFor T M → callFault T M ≡ none
+pub call-accepted : (T : Tables) (M : Memory) → tablesFault most T ≡ none → memoryFault T M ≡ none → callFault T M ≡ none
 unfolding callFault tablesFault
-call-accepted T M e enough =
+call-accepted T M e room =
     let a = orElse-none (sizesFault most T) (recordsFault T) e in
-    both-none _ _ (a .0) (both-none _ _ (no-memory-fault T M enough) (a .1))
+    both-none _ _ (a .0) (both-none _ _ room (a .1))
 
 -- the memory with an outcome in its first cells
 unfoldable pub memoryWith : Outcome → Memory → Memory

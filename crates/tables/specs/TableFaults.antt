@@ -54,13 +54,8 @@ lengthsFault limit n terms m propositions q questions =
 
 abbrev pub sizesFault : ℕ → Tables → Option Fault
 sizesFault limit T =
-    lengthsFault limit
-    (T .terms .count)
-    (length (T .terms .rows))
-    (T .propositions .count)
-    (length (T .propositions .rows))
-    (T .questions .count)
-    (length (T .questions .rows))
+    lengthsFault limit (T .terms .count) (length (T .terms .rows)) (T .propositions .count) (length (T .propositions .rows))
+    (T .questions .count) (length (T .questions .rows))
 
 -- 4, 5, 6, 7 and 9
 unfoldable pub recordsFault : Tables → Option Fault

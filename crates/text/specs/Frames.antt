@@ -36,25 +36,13 @@ abbrev pub dereference : Layout
 dereference = record { kind = derefKind; size = 6; frame = λ bs. term (record { kind = derefKind; number = field 0 2 bs; offset = offsetField 2 bs }) }
 
 abbrev pub relation : ℕ → Layout
-relation k = record {
-  kind = k;
-  size = 8;
-  frame = λ bs. proposition (record { kind = k; left = field 0 2 bs; offset = offsetField 2 bs; right = field 6 2 bs });
-}
+relation k = record { kind = k; size = 8; frame = λ bs. proposition (record { kind = k; left = field 0 2 bs; offset = offsetField 2 bs; right = field 6 2 bs }) }
 
 abbrev pub blocks : Layout
-blocks = record {
-  kind = blockDisequalityKind;
-  size = 4;
-  frame = λ bs. proposition (record { kind = blockDisequalityKind; left = field 0 2 bs; offset = pos 0; right = field 2 2 bs });
-}
+blocks = record { kind = blockDisequalityKind; size = 4; frame = λ bs. proposition (record { kind = blockDisequalityKind; left = field 0 2 bs; offset = pos 0; right = field 2 2 bs }) }
 
 abbrev pub asked : Layout
-asked = record {
-  kind = questionKind;
-  size = 8;
-  frame = λ bs. question (record { left = field 0 2 bs; offset = offsetField 2 bs; right = field 6 2 bs });
-}
+asked = record { kind = questionKind; size = 8; frame = λ bs. question (record { left = field 0 2 bs; offset = offsetField 2 bs; right = field 6 2 bs }) }
 
 unfoldable pub layouts : List Layout
 layouts = atom variableKind ∷ atom auxiliaryKind ∷ dereference ∷ relation equalityKind ∷ relation disequalityKind ∷ blocks ∷ asked ∷ []
