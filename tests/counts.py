@@ -13,6 +13,8 @@ import re
 import sys
 from pathlib import Path
 
+from specs import listed_crates
+
 MOST_PARAMETERS = 10
 LONGEST_LINE = 200
 
@@ -124,11 +126,6 @@ def crate_counts(folder):
         files = (folder / part).rglob("*.antt")
         setattr(counts, part, sum(path.read_text(encoding="utf-8").count("\n") for path in files))
     return counts
-
-
-def listed_crates():
-    lines = Path("crates.txt").read_text(encoding="utf-8").splitlines()
-    return [line.split(":")[0].strip() for line in lines if ":" in line and not line.startswith("#")]
 
 
 def show(rows):

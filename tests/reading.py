@@ -6,8 +6,8 @@ Run from the repository's root: python3 tests/reading.py [--list]
 They are: the statements of crates/promises/specs/Promises.antt (not their proofs of one line); the contracts of the functions that are
 called from outside; and every definition of the specs, and every type of the code, that these name, directly or through other
 definitions. What the kit defines is not counted, nor what the page says in full of the promises that the contracts name. Blank lines,
-lines of closing brackets, `use` lines and the lines of other theorems are not counted; comments above a declaration are. Exit status 1 if there are more than the
-most.
+lines of closing brackets, `use` lines and the lines of other theorems are not counted; comments above a declaration are. Exit status 1
+if there are more than the most.
 """
 
 import re
@@ -97,7 +97,6 @@ class Reading:
             while not lines[end].endswith(("}", ";")):
                 end += 1
             self.add(path, range(comment_start(lines, start), end + 1), lines)
-            known = uses(lines)
             for other in re.findall(r"[A-Z]\w+", "\n".join(lines[start : end + 1])):
                 if re.search(rf"\b(?:struct|enum) {other}\b", text):
                     self.type(crate, other)

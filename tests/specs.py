@@ -4,7 +4,6 @@ import re
 from pathlib import Path
 
 NAME = r"[^\s(){}\[\],;.]+"
-DECLARED = re.compile(rf"(abbrev |unfoldable )?(?:pub )?(record |data )?({NAME})(?: {{ℓ}})?(?: :|\s*$| \(| {{|(?<=record)|(?= where))")
 SIGNATURE = re.compile(rf"(abbrev |unfoldable )?(?:pub )?({NAME})(?: {{ℓ}})? :(?:\s|$)")
 TYPE = re.compile(rf"(?:pub )?(?:record|data) ({NAME})")
 FIELD = re.compile(rf"\s+(?:pub )?({NAME}) :(?:\s|$)")
@@ -35,18 +34,25 @@ class File:
         self.read()
 
     def read(self):
-        levels, last = [0], None
+        levels, last, header = [0], None, False
         for k, line in enumerate(self.lines):
             indent = len(line) - len(line.lstrip())
             text = line.strip()
             if not text:
                 continue
+            if header:  # a module's telescope goes on
+                self.modules[-1] += " " + text
+                header = not text.endswith("where")
+                continue
+            if levels[-1] is None:  # the first line of a module's body
+                levels[-1] = indent
             while indent < levels[-1]:
                 levels.pop()
             if indent == levels[-1]:
                 last = self.line(k, text, indent, last)
                 if text.startswith("module "):
-                    levels.append(indent + 2)
+                    levels.append(None)
+                    header = not text.endswith("where")
             elif last is not None:
                 last.end = k + 1
                 found = FIELD.match(line)
@@ -107,12 +113,17 @@ def listed_crates():
     return [line.split(":")[0].strip() for line in lines if ":" in line and not line.startswith("#")]
 
 
+def files(part, ending):
+    """The files of the crates, in their order."""
+    return [path for crate in listed_crates() for path in sorted(Path("crates", crate, part).rglob(ending))]
+
+
 def all_specs():
-    return {path: File(path) for crate in listed_crates() for path in sorted(Path("crates", crate, "specs").rglob("*.antt"))}
+    return {path: File(path) for path in files("specs", "*.antt")}
 
 
 def all_sources():
-    return {path: path.read_text(encoding="utf-8") for crate in listed_crates() for path in sorted(Path("crates", crate, "src").rglob("*.rt"))}
+    return {path: path.read_text(encoding="utf-8") for path in files("src", "*.rt")}
 
 
 def comment_start(lines, start):

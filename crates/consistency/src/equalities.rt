@@ -25,7 +25,8 @@ fn join_equality(
     offsets: &mut [i64],
     p: PropositionNumber,
 ) -> bool
-    requires { ⌜ AcceptedSet (setOf (now terms) (now propositions)) × Live (setOf (now terms) (now propositions)) (now marks) (now parents) (now offsets) ⌝ }
+    requires { let S = setOf (now terms) (now propositions) in
+        ⌜ AcceptedSet S × Live S (now marks) (now parents) (now offsets) ⌝ }
     requires { ⌜ (length (now propositions) ≤ length (now marks)) × (p .0 < length (now propositions)) ⌝ }
     ensures { λ r. ⌜ Advanced (setOf (before terms) (before propositions)) (before marks) (flat (before parents) (before offsets)) (after parents) (after offsets) (p .0) r ⌝ }
 {
@@ -54,7 +55,8 @@ pub(crate) fn join_equalities(
     parents: &mut [u32],
     offsets: &mut [i64],
 ) -> bool
-    requires { ⌜ AcceptedSet (setOf (now terms) (now propositions)) × Live (setOf (now terms) (now propositions)) (now marks) (now parents) (now offsets) ⌝ }
+    requires { let S = setOf (now terms) (now propositions) in
+        ⌜ AcceptedSet S × Live S (now marks) (now parents) (now offsets) ⌝ }
     requires { ⌜ length (now propositions) ≤ length (now marks) ⌝ }
     ensures { λ r. ⌜ Equalities (setOf (before terms) (before propositions)) (before marks) (after parents) (after offsets) (length (before propositions)) r ⌝ }
 {
