@@ -15,7 +15,7 @@ use Rattle.driver.specs.Within as written
 use Rattle.driver.specs.Program as program
 use Rattle.bucketmonk_c.specs.Results as numbers
 
--- Demand 1. Every set of tables gets an answer; a refused call changes nothing; offsets never overflow.
+-- Demand 1. Every set of tables gets an answer; a refused call changes nothing; offsets never overflow (`largest-distance`).
 module _ (T : Tables) (M N : Memory) (r : Solved) (A : Answered T M N r) where
   -- a call is refused exactly if it has a fault, with the number and the place of the first one
   solve-refuses : (f : Fault) → r ≡ Solved.Refused f ↔ (callFault T M ≡ some f)
@@ -136,7 +136,7 @@ module _ (T : Tables) (M N : Memory) (r : Solved) (A : Answered T M N r) (accept
       answer-neither : getD (N .answers) k 0 ≡ answerNumber Answer.Neither ↔ ((Equal ts G (q .left) (q .offset) (q .right) → ⊥) × (Different ts G (q .left) (q .offset) (q .right) → ⊥))
       answer-neither = solver.neither-derived T M N r A accepts sat k q i
 
-    -- the largest distance between two terms of a class
+    -- demand 1: two terms of a class are at most 511 × 2,147,483,648 apart, which 64 bits hold
     largest-distance : {t1 t2 : ℕ} {z : ℤ} → t1 < length ts → t2 < length ts → Equal ts G t1 z t2 → Within ((most - 1) * offsetLimit) z
     largest-distance = solver.distance T M N r A accepts sat
 
