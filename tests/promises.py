@@ -5,7 +5,7 @@ Run from the repository's root: python3 tests/promises.py. Last line: "N passed,
 
 - Every name in backquotes exists: a declaration of specs, a field or constructor, something that the code declares, a crate or a file.
   Where a file stands with it, as in `name` (crate/File) or crate/File `name`, it is declared there.
-- Every file and every must-fail edit that is named exists.
+- Every file and every must-fail edit that is named exists. Every statement of the page of statements is named.
 - The last table names each edit once. No row of a table is longer than two lines of 140 characters.
 - The numbers of functions are those that the crates have.
 - Each public function that is not called from outside the repository names the crates that use it, after "Public for".
@@ -15,7 +15,7 @@ import re
 import sys
 from pathlib import Path
 
-from reading import ENTRIES
+from reading import ENTRIES, PAGE as STATEMENTS
 from specs import all_sources, all_specs, listed_crates
 
 PAGE = Path("docs/PROMISES.md")
@@ -113,6 +113,8 @@ class Check:
             if len(cells) == 4:
                 for crate, name in EDIT.findall(cells[3]):
                     self.say(f"{crate}/{name}" in self.edits, f"line {k}: no edit {crate}/{name}")
+        for item in self.specs[STATEMENTS].items:
+            self.say(item.definition or f"`{item.name}`" in body, f"the statement {item.name} is not named")
         rows = re.findall(r"^\| (\S+) \|", last, re.MULTILINE)
         for edit in sorted(self.edits):
             self.say(rows.count(edit) == 1, f"the last table names {edit} {rows.count(edit)} times")

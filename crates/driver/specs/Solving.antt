@@ -1,7 +1,6 @@
 -- The frames that the memory holds after the solver's call on accepted tables.
 use Prim.Native.Nat.{ℕ, _≤_}
 use mathlib.Core.Path.{_≡_, sym, _∙_}
-use mathlib.Core.List.{List}
 use mathlib.Core.Option.{Option, none, some}
 use native.Mathlib.Omega.{arith}
 use native.Mathlib.Nat.{mul-le-mul-left, mul-le-mul-right}
@@ -13,17 +12,13 @@ use Rattle.types.specs.declared.Verdict.{Verdict}
 use Rattle.types.specs.declared.Solved.{Solved}
 use Rattle.outcome.specs.PairBits.{pairBytes}
 use Rattle.tables.specs.Limits.{most}
-use Rattle.tables.specs.Rows.{termAt, propositionAt, questionAt}
 use Rattle.tables.specs.RefusalLaws.{orElse-none}
-use Rattle.tables.specs.TermTable.{length-terms-from}
-use Rattle.tables.specs.PropositionTable.{length-propositions-from}
-use Rattle.tables.specs.QuestionTable.{length-questions-from}
 use Rattle.tables.specs.TableFaults.{Tables, Sized, sized, sizesFault, recordsFault, tablesFault}
 use Rattle.tables.specs.Memory.{Memory, memoryOf, callFault, EnoughFor, Beyond, no-memory-fault, call-accepted}
 use Rattle.text.specs.Output.{labelFrames, blameFrames, middle, outcomeFrames}
 use Rattle.text.specs.OutputSize.{largestOutput, outcome-size}
 use Rattle.writer.specs.Frames.{setFrames}
-use Rattle.solver.specs.Call.{termsOf, propositionsOf, questionsOf, run, solvedBy, used, Answered}
+use Rattle.solver.specs.Call.{termsOf, propositionsOf, questionsOf, length-terms, length-propositions, length-questions, run, solvedBy, used, Answered}
 use Rattle.solver.specs.Demands.{used-run, beyond-kept, refused-exactly}
 
 abbrev pub zeroMemory : Memory
@@ -61,21 +56,12 @@ module _ (T : Tables) (accepted : tablesFault most T ≡ none) where
   no-fault : callFault T zeroMemory ≡ none
   no-fault = call-accepted T zeroMemory accepted (no-memory-fault T zeroMemory enough)
 
-  length-terms : length (termsOf T) ≡ T .terms .count
-  length-terms = length-terms-from (T .terms .count) (termAt (T .terms .rows))
-
-  length-propositions : length (propositionsOf T) ≡ T .propositions .count
-  length-propositions = length-propositions-from (T .propositions .count) (propositionAt (T .propositions .rows))
-
-  length-questions : length (questionsOf T) ≡ T .questions .count
-  length-questions = length-questions-from (T .questions .count) (questionAt (T .questions .rows))
-
   pub run-size : length (outcomeFrames (run T)) ≤ largestOutput
   unfolding run
   run-size =
-      outcome-size (termsOf T) (propositionsOf T) (questionsOf T) (omega (arith, length-terms, few .few-terms))
-      (omega (arith, length-propositions, few .few-propositions))
-      (omega (arith, length-questions, few .few-questions))
+      outcome-size (termsOf T) (propositionsOf T) (questionsOf T) (omega (arith, length-terms T, few .few-terms))
+      (omega (arith, length-propositions T, few .few-propositions))
+      (omega (arith, length-questions T, few .few-questions))
 
   module _ (N : Memory) (r : Solved) (a : Answered T zeroMemory N r) where
     beyond : Beyond T zeroMemory N

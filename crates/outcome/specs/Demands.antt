@@ -2,19 +2,17 @@
 -- Each theorem is about the outcome of a set whose dereferences, propositions and questions name listed terms.
 use Prim.Native.Nat.{ℕ, zero, suc, _+_, _*_, _/_, _%_, _<_, _≤_}
 use mathlib.Core.Path.{_≡_, refl, sym, _∙_, ap}
-use mathlib.Core.Logic.{_≢_, _⊎_, inl, inr, ⊎-elim, _↔_}
+use mathlib.Core.Logic.{_↔_}
 use mathlib.Core.Bool.{Bool, true, false, not}
-use mathlib.Core.List.{List, [], _∷_, _++_, map}
+use mathlib.Core.List.{List, [], _++_, map}
 use native.Mathlib.Omega.{arith}
 use lib.IntN.{ℤ, pos}
 use lib.ListN.{length, getD, set, replicate, getD-replicate}
 use lib.Pow.{shr-le}
-use Rattle.lists.specs.Items.{Item, item-map, item-below, getD-item}
+use Rattle.lists.specs.Items.{Item, item-map}
 use Rattle.lists.specs.Search.{choose}
 use Rattle.lists.specs.Tabulate.{select}
-use Rattle.types.specs.declared.Verdict.{Verdict}
 use Rattle.types.specs.declared.Verdict.the-variants as verdict
-use Rattle.types.specs.declared.Answer.{Answer}
 use Rattle.types.specs.declared.Answer.the-variants as answer
 use Rattle.types.specs.Numbers.{answerNumber}
 use Rattle.rules.specs.Terms.{Term, Proposition, Comparison, listed, WellFormed}
@@ -22,7 +20,7 @@ use Rattle.rules.specs.Rules.{Equal, Different, Contradiction}
 use Rattle.rules.specs.Assignments.{Placement, Holds, Differs, Assignment}
 use Rattle.rules.specs.Monotone.{well-formed-less}
 use Rattle.rules.specs.Soundness.{equal-holds, different-differs}
-use Rattle.labels.specs.Unique.{Canonical, canonical-equal, unique}
+use Rattle.labels.specs.Unique.{Canonical, canonical-equal}
 use Rattle.closure.specs.Facts.{facts, lists}
 use Rattle.closure.specs.Join.{Label, placed, own, length-own, own-at, rep-at, off-at}
 use Rattle.closure.specs.Closure.{closure, length-closure}

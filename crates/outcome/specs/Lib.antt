@@ -1,4 +1,5 @@
--- What a run leaves (Outcome, with Blame and PairBits) and how much (Lengths), paper 01's examples (Examples), and the theorems (Demands, BlameMinimal).
+-- What a run leaves (Outcome, with Blame and PairBits) and how much (Lengths), paper 01's examples (Examples), and the theorems (Demands;
+-- of blame: BlameMinimal, BlameOrder), with the marks as cells hold them (Marks).
 pub mod Blame
 pub mod PairBits
 pub mod Outcome

@@ -1,31 +1,24 @@
 -- The promise of `solve`: how it follows from the tests and from the answers to an accepted set.
-use Prim.Native.Nat.{ℕ, _≤_}
+use Prim.Native.Nat.{ℕ}
 use mathlib.Core.Path.{_≡_, refl, sym, _∙_, ap}
 use mathlib.Core.List.{List, _++_}
-use mathlib.Core.Option.{Option, none, some}
-use native.Mathlib.Omega.{arith}
-use lib.IntN.{ℤ}
+use mathlib.Core.Option.{none, some}
 use lib.ListN.{length, take, drop}
 use lib.Seq.{length-take-le}
 use Rattle.lists.specs.Overwrite.{overwrite}
 use Rattle.types.specs.declared.Solved.{Solved}
 use Rattle.types.specs.declared.Fault.{Fault}
-use Rattle.types.specs.declared.Acceptance.{Acceptance}
 use Rattle.types.specs.declared.Acceptance.the-variants.{Accepted, Refused}
 use Rattle.outcome.specs.PairBits.{pairBytes}
-use Rattle.outcome.specs.Outcome.{Outcome, outcome}
+use Rattle.outcome.specs.Outcome.{outcome}
 use Rattle.tables.specs.Limits.{most}
-use Rattle.tables.specs.Refusals.{orElse}
-use Rattle.tables.specs.TermTable.{length-terms-from}
-use Rattle.tables.specs.PropositionTable.{length-propositions-from}
-use Rattle.tables.specs.QuestionTable.{length-questions-from}
 use Rattle.tables.specs.Sets.{termsIn, propositionsIn}
-use Rattle.tables.specs.TableFaults.{Table, Tables, acceptance, sizesFault, recordsFault, Sized, sized}
+use Rattle.tables.specs.TableFaults.{Tables, acceptance, sizesFault, recordsFault, Sized, sized}
 use Rattle.tables.specs.Memory.{Memory, memoryFault, callFault, EnoughFor, enough, memoryWith}
 use Rattle.refusals.specs.FirstFault.{accepts, refuses}
 use Rattle.refusals.specs.Parts.{counted, parts-fault}
 use Rattle.columns.specs.Telling.{questionsIn}
-use Rattle.solver.specs.Call.{termsOf, propositionsOf, questionsOf, run, run-lengths, solvedBy, returned, left, Answered}
+use Rattle.solver.specs.Call.{run, run-lengths, Answered}
 use Rattle.solver.specs.Solving.{Asked, Leaves, Solves}
 use Rattle.solver.specs.Counted.{countedSet, countedQuestions, terms-count, propositions-count, questions-count, counted-terms, counted-propositions, counted-questions, counted-accepted, counted-asked}
 
@@ -117,12 +110,12 @@ module _ (T : Tables) (M : Memory) where
         unfolding memoryWith
         answered N r S =
             let L : Leaves (run T) N r = rw run-is at S in
-            let n = length-terms-from (T .terms .count) _ in
-            let reps = front (run T .representatives) (N .representatives) (M .representatives) (T .terms .count) (L .representatives) (run-lengths T .representatives ∙ n) in
-            let offs = front (run T .offsets) (N .offsets) (M .offsets) (T .terms .count) (L .offsets) (run-lengths T .offsets ∙ n) in
-            let marks = front (run T .marks) (N .marks) (M .marks) (T .propositions .count) (L .marks) (run-lengths T .marks ∙ length-propositions-from (T .propositions .count) _) in
-            let pairs = front (run T .pairs) (N .pairs) (M .pairs) (pairBytes (T .terms .count)) (L .pairs) (run-lengths T .pairs ∙ ap pairBytes n) in
-            let answers = front (run T .answers) (N .answers) (M .answers) (T .questions .count) (L .answers) (run-lengths T .answers ∙ length-questions-from (T .questions .count) _) in
+            let l = run-lengths T in
+            let reps = front (run T .representatives) (N .representatives) (M .representatives) (T .terms .count) (L .representatives) (l .representatives) in
+            let offs = front (run T .offsets) (N .offsets) (M .offsets) (T .terms .count) (L .offsets) (l .offsets) in
+            let marks = front (run T .marks) (N .marks) (M .marks) (T .propositions .count) (L .marks) (l .marks) in
+            let pairs = front (run T .pairs) (N .pairs) (M .pairs) (pairBytes (T .terms .count)) (L .pairs) (l .pairs) in
+            let answers = front (run T .answers) (N .answers) (M .answers) (T .questions .count) (L .answers) (l .answers) in
             record {
               returns = rw no-fault (L .verdict);
               leaves = rw no-fault (λ i. record { representatives = reps i; offsets = offs i; marks = marks i; pairs = pairs i; answers = answers i });

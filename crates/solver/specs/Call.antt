@@ -1,9 +1,9 @@
 -- A call of the solver: the set and the questions that its tables hold, what is returned, and every lent cell afterwards.
 use Prim.Native.Nat.{ℕ}
-use mathlib.Core.Path.{_≡_}
+use mathlib.Core.Path.{_≡_, _∙_, ap}
 use mathlib.Core.List.{List, []}
 use mathlib.Core.Option.{Option, none, some}
-use lib.ListN.{take}
+use lib.ListN.{length, take}
 use Rattle.types.specs.declared.Fault.{Fault}
 use Rattle.types.specs.declared.Solved.{Solved}
 use Rattle.types.specs.declared.Verdict.{Verdict}
@@ -11,12 +11,12 @@ use Rattle.types.specs.declared.Verdict.the-variants.{Satisfiable, Contradictio
 use Rattle.rules.specs.Terms.{Term, Proposition, Comparison}
 use Rattle.outcome.specs.PairBits.{pairBytes}
 use Rattle.outcome.specs.Outcome.{Outcome, outcome}
-use Rattle.outcome.specs.Lengths.{Lengths, outcome-lengths}
+use Rattle.outcome.specs.Lengths.{outcome-lengths}
 use Rattle.tables.specs.Limits.{most}
 use Rattle.tables.specs.Rows.{Row, termAt, propositionAt, questionAt}
-use Rattle.tables.specs.TermTable.{termsFrom}
-use Rattle.tables.specs.PropositionTable.{propositionsFrom}
-use Rattle.tables.specs.QuestionTable.{questionsFrom}
+use Rattle.tables.specs.TermTable.{termsFrom, length-terms-from}
+use Rattle.tables.specs.PropositionTable.{propositionsFrom, length-propositions-from}
+use Rattle.tables.specs.QuestionTable.{questionsFrom, length-questions-from}
 use Rattle.tables.specs.TableFaults.{Tables, tablesOf, tablesFault}
 use Rattle.tables.specs.Memory.{Memory, memoryWith, callFault}
 
@@ -33,9 +33,35 @@ questionsOf T = questionsFrom (T .questions .count) (questionAt (T .questions .r
 unfoldable pub run : Tables → Outcome
 run T = outcome (termsOf T) (propositionsOf T) (questionsOf T)
 
-pub run-lengths : (T : Tables) → Lengths (termsOf T) (propositionsOf T) (questionsOf T) (run T)
+-- they are as many as the counts say
+pub length-terms : (T : Tables) → length (termsOf T) ≡ T .terms .count
+length-terms T = length-terms-from (T .terms .count) (termAt (T .terms .rows))
+
+pub length-propositions : (T : Tables) → length (propositionsOf T) ≡ T .propositions .count
+length-propositions T = length-propositions-from (T .propositions .count) (propositionAt (T .propositions .rows))
+
+pub length-questions : (T : Tables) → length (questionsOf T) ≡ T .questions .count
+length-questions T = length-questions-from (T .questions .count) (questionAt (T .questions .rows))
+
+-- and so are the cells of the outcome
+pub record RunLengths (T : Tables) : Type 0 where
+  pub representatives : length (run T .representatives) ≡ T .terms .count
+  pub offsets : length (run T .offsets) ≡ T .terms .count
+  pub marks : length (run T .marks) ≡ T .propositions .count
+  pub pairs : length (run T .pairs) ≡ pairBytes (T .terms .count)
+  pub answers : length (run T .answers) ≡ T .questions .count
+
+pub run-lengths : (T : Tables) → RunLengths T
 unfolding run
-run-lengths T = outcome-lengths (termsOf T) (propositionsOf T) (questionsOf T)
+run-lengths T =
+    let l = outcome-lengths (termsOf T) (propositionsOf T) (questionsOf T) in
+    record {
+      representatives = l .representatives ∙ length-terms T;
+      offsets = l .offsets ∙ length-terms T;
+      marks = l .marks ∙ length-propositions T;
+      pairs = l .pairs ∙ ap pairBytes (length-terms T);
+      answers = l .answers ∙ length-questions T;
+    }
 
 abbrev pub solvedBy : Verdict → Solved
 solvedBy Satisfiable = Solved.Satisfiable

@@ -32,13 +32,12 @@ use Rattle.outcome.specs.Demands as outcomes
 use Rattle.tables.specs.Limits.{most, offsetLimit}
 use Rattle.tables.specs.Rows.{termAt, propositionAt, questionAt}
 use Rattle.tables.specs.RefusalLaws.{orElse-none}
-use Rattle.tables.specs.TermTable.{length-terms-from}
-use Rattle.tables.specs.PropositionTable.{well-formed-from, bounded-from, length-propositions-from}
-use Rattle.tables.specs.QuestionTable.{question-sides, length-questions-from}
+use Rattle.tables.specs.PropositionTable.{well-formed-from, bounded-from}
+use Rattle.tables.specs.QuestionTable.{question-sides}
 use Rattle.tables.specs.TableFaults as faults
 use Rattle.tables.specs.TableFaults.{Tables, sizesFault, recordsFault, tablesFault, Accepted, unrefused}
 use Rattle.tables.specs.Memory.{Memory, callFault, memoryFault, Beyond, passed, memoryWith}
-use Rattle.solver.specs.Call.{termsOf, propositionsOf, questionsOf, run, run-lengths, used, solvedBy, returned, Answered, unasked, verdictOf}
+use Rattle.solver.specs.Call.{termsOf, propositionsOf, questionsOf, length-terms, run, run-lengths, used, solvedBy, returned, Answered, unasked, verdictOf}
 use Rattle.solver.specs.Verdict.{verdict-when}
 
 -- the set that accepted tables hold is well formed
@@ -160,9 +159,6 @@ module _ (T : Tables) (M N : Memory) (r : Solved) (A : Answered T M N r) (accept
   pub used-run : (v : Verdict) → r ≡ solvedBy v → used T v N ≡ run T
   used-run v e =
       let l = run-lengths T in
-      let n = length-terms-from (T .terms .count) (termAt (T .terms .rows)) in
-      let m = length-propositions-from (T .propositions .count) (propositionAt (T .propositions .rows)) in
-      let q = length-questions-from (T .questions .count) (questionAt (T .questions .rows)) in
       let same : v ≡ run T .verdict = solved-same v (run T .verdict) (sym e ∙ rw accepted at (A .returns)) in
       rw (
         same,
@@ -172,26 +168,24 @@ module _ (T : Tables) (M N : Memory) (r : Solved) (A : Answered T M N r) (accept
         pairs-left,
         answers-left,
         ← run-is,
-        take-overwrite (run T .representatives) (M .representatives) (T .terms .count) (l .representatives ∙ n),
-        take-overwrite (run T .offsets) (M .offsets) (T .terms .count) (l .offsets ∙ n),
-        take-overwrite (run T .marks) (M .marks) (T .propositions .count) (l .marks ∙ m),
-        take-overwrite (run T .pairs) (M .pairs) (pairBytes (T .terms .count)) (l .pairs ∙ ap pairBytes n),
-        take-overwrite (run T .answers) (M .answers) (T .questions .count) (l .answers ∙ q),
+        take-overwrite (run T .representatives) (M .representatives) (T .terms .count) (l .representatives),
+        take-overwrite (run T .offsets) (M .offsets) (T .terms .count) (l .offsets),
+        take-overwrite (run T .marks) (M .marks) (T .propositions .count) (l .marks),
+        take-overwrite (run T .pairs) (M .pairs) (pairBytes (T .terms .count)) (l .pairs),
+        take-overwrite (run T .answers) (M .answers) (T .questions .count) (l .answers),
       )
 
   -- the others are as they were
   pub beyond-kept : Beyond T M N
   beyond-kept =
-      let n = length-terms-from (T .terms .count) (termAt (T .terms .rows)) in
-      let m = length-propositions-from (T .propositions .count) (propositionAt (T .propositions .rows)) in
-      let q = length-questions-from (T .questions .count) (questionAt (T .questions .rows)) in
+      let l = run-lengths T in
       let E = passed T M accepted .enough in
       record {
-        representatives = rw representatives-left (overwrite-keeps (O .representatives) (M .representatives) _ (lengths .representatives ∙ n) (E .representatives));
-        offsets = rw offsets-left (overwrite-keeps (O .offsets) (M .offsets) _ (lengths .offsets ∙ n) (E .offsets));
-        marks = rw marks-left (overwrite-keeps (O .marks) (M .marks) _ (lengths .marks ∙ m) (E .marks));
-        pairs = rw pairs-left (overwrite-keeps (O .pairs) (M .pairs) _ (lengths .pairs ∙ ap pairBytes n) (E .pairs));
-        answers = rw answers-left (overwrite-keeps (O .answers) (M .answers) _ (lengths .answers ∙ q) (E .answers));
+        representatives = rw (representatives-left, ← run-is) (overwrite-keeps (run T .representatives) (M .representatives) _ (l .representatives) (E .representatives));
+        offsets = rw (offsets-left, ← run-is) (overwrite-keeps (run T .offsets) (M .offsets) _ (l .offsets) (E .offsets));
+        marks = rw (marks-left, ← run-is) (overwrite-keeps (run T .marks) (M .marks) _ (l .marks) (E .marks));
+        pairs = rw (pairs-left, ← run-is) (overwrite-keeps (run T .pairs) (M .pairs) _ (l .pairs) (E .pairs));
+        answers = rw (answers-left, ← run-is) (overwrite-keeps (run T .answers) (M .answers) _ (l .answers) (E .answers));
       }
 
   -- demand 2: contradiction exactly where one of the three conditions is derived
@@ -228,7 +222,7 @@ module _ (T : Tables) (M N : Memory) (r : Solved) (A : Answered T M N r) (accept
     distance h1 h2 e =
         let p = passed T M accepted in
         let B = bounded-from (T .terms .count) (T .propositions .count) (propositionAt (T .propositions .rows)) (p .accepted .propositions) ts in
-        let n = length-terms-from (T .terms .count) (termAt (T .terms .rows)) in
+        let n = length-terms T in
         largest-distance ts (listed ts ps) wf (facts ts ps) (lists ts ps) offsetLimit (most - 1) B (omega (arith, n, p .sized .few-terms)) (outcomes.no-contra ts ps qs wf (satisfiable-verdict sat)) h1 h2 e
 
     module _ (k : ℕ) (q : Comparison) (i : Item qs k q) where
@@ -238,7 +232,7 @@ module _ (T : Tables) (M N : Memory) (r : Solved) (A : Answered T M N r) (accept
       sides : (q .left < length ts) × (q .right < length ts)
       sides =
           let b = question-sides (T .terms .count) (T .questions .count) (questionAt (T .questions .rows)) (passed T M accepted .accepted .questions) k i in
-          let n = length-terms-from (T .terms .count) (termAt (T .terms .rows)) in
+          let n = length-terms T in
           (omega (arith, b .0, n), omega (arith, b .1, n))
 
       given-is : given ≡ getD (O .answers) k 0

@@ -1,4 +1,5 @@
--- The digits are the sixteen of paper 01; an accepted line holds a frame without fault; a refusal's place is the number of a line.
+-- The digits are the sixteen of paper 01; an accepted line holds a frame without fault; a refusal's place is the number of a line, whose
+-- characters are handed back.
 use Prim.Native.Nat.{ℕ, zero, suc, _+_, _-_, _<_, _≤_}
 use mathlib.Core.Path.{_≡_, refl, sym, ap}
 use mathlib.Core.Bool.{Bool, true, false, not, _&&_, _||_}

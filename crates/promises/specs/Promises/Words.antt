@@ -29,7 +29,7 @@ pub use Rattle.tables.specs.Limits.{most, offsetLimit}
 pub use Rattle.tables.specs.TableFaults.{Tables, tablesFault}
 pub use Rattle.tables.specs.Memory.{Memory, memoryFault, callFault, Beyond}
 pub use Rattle.text.specs.Lines.{Line, linesOf}
-pub use Rattle.text.specs.Reading.{Records, accepted, refused, reading, Part, partOf}
+pub use Rattle.text.specs.Reading.{Records, accepted, refused, reading, partOf}
 pub use Rattle.text.specs.Output.{judged, verdictFrame, labelFrames, blameFrames, answerFrames, refusalFrame, output}
 pub use Rattle.text.specs.Laws.{part-characters}
 pub use Rattle.text.specs.Size.{judged-enough}
