@@ -13,7 +13,7 @@ use native.Mathlib.Numerals.{add-one}
 use lib.ListN.{length, take, drop, set, getD, length-append, drop-of-length-le}
 use lib.Seq.{drop-cons, take-suc, take-suc-set}
 use Rattle.text.specs.Lines.{digit, consByte, bytesOf, big, signed}
-use Rattle.text.specs.Laws.{digit-only}
+use Rattle.text.specs.Digits.{digit-only}
 use Rattle.hexadecimal.specs.declared.Spelled.the-variants.{Value, Bad}
 use Rattle.hexadecimal.specs.Spelling.{spelled, pairByte}
 

@@ -30,7 +30,7 @@ pub fn digit_of(v: u8) -> u8
     requires { ⌜ v < 16 ⌝ }
     ensures { λ r. ⌜ r ≡ digitOf v ⌝ }
 {
-    if v < 10 { 48 + v } else { 55 + v }
+    if v < 10 { b'0' + v } else { b'A' + (v - 10) }
 }
 
 // The byte that two digits spell.

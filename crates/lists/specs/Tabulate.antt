@@ -1,6 +1,6 @@
 -- Lists of a function's values, and the selection of a list's items by marks.
 use Prim.Native.Nat.{ℕ, zero, suc, _+_, _<_}
-use mathlib.Core.Path.{_≡_, refl, ap, _∙_}
+use mathlib.Core.Path.{_≡_, refl, ap, sym, _∙_}
 use mathlib.Core.Bool.{Bool, true, false}
 use mathlib.Core.List.{List, [], _∷_}
 use native.Mathlib.Omega.{arith}
@@ -35,6 +35,10 @@ module _ {A : Type 0} where
       let here = same k (omega arith) in
       let rest = tabulate-ext f g (suc k) n (λ j h. same j (omega arith)) in
       rw (here, rest)
+
+  -- what two functions have in common by evaluation
+  pub tabulate-values : (f g : ℕ → A) (n : ℕ) → tabulate f 0 n ≡ tabulate g 0 n → (k : ℕ) → k < n → f k ≡ g k
+  tabulate-values f g n e k h = sym (from-zero f n k (f 0) h) ∙ ap (λ (l : List A). getD l k (f 0)) e ∙ from-zero g n k (f 0) h
 
   -- the items that are marked
   unfoldable pub select : List Bool → List A → List A

@@ -14,7 +14,7 @@ use Rattle.lists.specs.Search.{choose}
 use Rattle.tables.specs.Records.{variableKind, auxiliaryKind, equalityKind, disequalityKind, offsetInRange, atomRecord, termOf, propositionOf, questionOf}
 use Rattle.tables.specs.Refusals.{malformed}
 use Rattle.text.specs.Lines.{Line, digit, consByte, bytesOf, big, signed}
-use Rattle.text.specs.Laws.{digit-only}
+use Rattle.text.specs.Digits.{digit-only}
 use Rattle.text.specs.Frames.{Frame, term, proposition, question, Layout, field, atom, dereference, relation, blocks, asked, layouts, frameBy, frameOfBytes, frameOf}
 
 consByte-some : (a b : Option ℕ) (r : Option (List ℕ)) (bs : List ℕ)

@@ -1,73 +1,24 @@
--- The digits are the sixteen of paper 01; an accepted line holds a frame without fault; a refusal's place is the number of a line, whose
--- characters are handed back.
-use Prim.Native.Nat.{ℕ, zero, suc, _+_, _-_, _<_, _≤_}
+-- An accepted line holds a frame without fault; a refusal's place is the number of a line, whose characters are handed back.
+use Prim.Native.Nat.{ℕ, zero, suc, _+_, _<_, _≤_}
 use mathlib.Core.Path.{_≡_, refl, sym, ap}
-use mathlib.Core.Bool.{Bool, true, false, not, _&&_, _||_}
+use mathlib.Core.Bool.{Bool, true, false, not, _||_}
 use mathlib.Core.List.{List, [], _∷_}
 use mathlib.Core.Option.{Option, none, some}
 use native.Mathlib.Omega.{arith}
-use lib.Dec.{eqb, leb, ltb}
+use lib.Dec.{eqb}
 use lib.ListN.{length, getD, take, drop}
 use lib.Seq.{drop-cons}
 use Rattle.lists.specs.Items.{Item, not-in-empty, getD-item}
-use borrow.Author.Tests.{leb-true, leb-false, le-leb, lt-leb, ltb-true, ltb-false, lt-ltb, le-ltb}
+use borrow.Author.Tests.{leb-false}
 use Rattle.lists.specs.Search.{choose}
-use Rattle.lists.specs.Booleans.{and-true}
 use Rattle.types.specs.declared.Refusal.{Refusal}
 use Rattle.types.specs.declared.Refusal.the-variants.{TooManyTerms, TooManyPropositions, TooManyQuestions, Malformed, GroupOrder}
 use Rattle.tables.specs.Limits.{most}
 use Rattle.tables.specs.Refusals.{Fault, orElse, refuseIf, termNameFault, propositionNameFault, questionNameFault}
 use Rattle.tables.specs.RefusalLaws.{orElse-none, refuseIf-none}
-use Rattle.text.specs.Lines.{Line, lf, before, linesOf, digit, digitOf}
+use Rattle.text.specs.Lines.{Line, lf, before, linesOf}
 use Rattle.text.specs.Frames.{Frame, term, proposition, question, frameOf}
 use Rattle.text.specs.Reading.{Records, nothing, reading, lineStart, partOf, refused, isEmpty, full, frameFault, withFrame, Step, refuse, go-on, stepFault, stepFrame, step, after, readLines}
-
--- each digit's value
-pub digit-value : (v : ℕ) → v < 16 → digit (digitOf v) ≡ some v
-unfolding digit digitOf
-digit-value v h = go (ltb v 10) refl
-  where
-    go : (b : Bool) → ltb v 10 ≡ b → choose (leb 48 (choose b (48 + v) (55 + v)) && leb (choose b (48 + v) (55 + v)) 57) (some (choose b (48 + v) (55 + v) - 48)) (choose (leb 65 (choose b (48 + v) (55 + v)) && leb (choose b (48 + v) (55 + v)) 70) (some (choose b (48 + v) (55 + v) - 55)) none) ≡ some v
-    go true e =
-        let l : v < 10 = ltb-true v 10 e in
-        let a : leb 48 (48 + v) ≡ true = le-leb 48 (48 + v) (omega arith) in
-        let b : leb (48 + v) 57 ≡ true = le-leb (48 + v) 57 (omega arith) in
-        let s : 48 + v - 48 ≡ v = omega arith in
-        rw (a, b, s)
-    go false e =
-        let l : 10 ≤ v = ltb-false v 10 e in
-        let a : leb 48 (55 + v) ≡ true = le-leb 48 (55 + v) (omega arith) in
-        let b : leb (55 + v) 57 ≡ false = lt-leb (55 + v) 57 (omega arith) in
-        let c : leb 65 (55 + v) ≡ true = le-leb 65 (55 + v) (omega arith) in
-        let d : leb (55 + v) 70 ≡ true = le-leb (55 + v) 70 (omega arith) in
-        let s : 55 + v - 55 ≡ v = omega arith in
-        rw (a, b, c, d, s)
-
--- no other character has one
-pub digit-only : (c v : ℕ) → digit c ≡ some v → (v < 16) × (c ≡ digitOf v)
-unfolding digit digitOf
-digit-only c v = first (leb 48 c && leb c 57) refl (leb 65 c && leb c 70) refl
-  where
-    first :
-        (a : Bool) →
-        (leb 48 c && leb c 57) ≡ a →
-        (b : Bool) →
-        (leb 65 c && leb c 70) ≡ b →
-        choose a (some (c - 48)) (choose b (some (c - 55)) none) ≡ some v →
-        (v < 16) × (c ≡ choose (ltb v 10) (48 + v) (55 + v))
-    first true e b f s =
-        let r = and-true (leb 48 c) (leb c 57) e in
-        let lo = leb-true 48 c (r .0) in
-        let hi = leb-true c 57 (r .1) in
-        let is : c - 48 ≡ v = cc in
-        (omega arith, rw (lt-ltb v 10 (omega arith)) (omega arith))
-    first false e true f s =
-        let r = and-true (leb 65 c) (leb c 70) f in
-        let lo = leb-true 65 c (r .0) in
-        let hi = leb-true c 70 (r .1) in
-        let is : c - 55 ≡ v = cc in
-        (omega arith, rw (le-ltb v 10 (omega arith)) (omega arith))
-    first false e false f s = let z : _≡_ {A = ℕ} 0 1 = cc in absurd (omega arith)
 
 not-full : {A : Type 0} (l : List A) (r : Refusal) (o : Option Refusal) → orElse (refuseIf (full l) r) o ≡ none → (length l < most) × (o ≡ none)
 not-full l r o e =

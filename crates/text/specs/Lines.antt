@@ -1,12 +1,15 @@
 -- A text as lines, each ended by one LF; and digits of hexadecimal.
+use Prim.Native.Char.{code}
 use Prim.Native.Nat.{ℕ, zero, suc, _+_, _*_, _-_, _/_, _%_, _^_}
-use mathlib.Core.Bool.{Bool, true, false, _&&_}
+use Prim.Native.String.{charAt}
+use mathlib.Core.Bool.{Bool, true, false}
 use mathlib.Core.List.{List, [], _∷_, _++_}
 use mathlib.Core.Option.{Option, none, some}
-use lib.Dec.{eqb, leb, ltb}
+use lib.Dec.{eqb, ltb}
 use lib.IntN.{ℤ, pos, negsuc}
 use lib.ListN.{length}
-use Rattle.lists.specs.Search.{choose}
+use Rattle.lists.specs.Search.{choose, find}
+use Rattle.lists.specs.Tabulate.{tabulate}
 
 abbrev pub lf : ℕ
 lf = 10
@@ -25,11 +28,13 @@ unfoldable pub linesOf : List ℕ → List Line
 linesOf [] = []
 linesOf (c ∷ text) = choose (eqb c lf) (record { characters = []; ended = true } ∷ linesOf text) (before c (linesOf text))
 
--- the value of a digit: 0 to 9, A to F
+-- the digit of a value below 16
+unfoldable pub digitOf : ℕ → ℕ
+digitOf v = code (charAt "0123456789ABCDEF" v)
+
+-- the value whose digit a character is; no other character has one
 unfoldable pub digit : ℕ → Option ℕ
-digit c =
-    choose (leb 48 c && leb c 57) (some (c - 48))
-    (choose (leb 65 c && leb c 70) (some (c - 55)) none)
+digit c = find (λ (v : ℕ). eqb c (digitOf v)) (tabulate (λ (v : ℕ). v) 0 16)
 
 abbrev pub consByte : Option ℕ → Option ℕ → Option (List ℕ) → Option (List ℕ)
 consByte none l r = none
@@ -56,10 +61,6 @@ signed k n = choose (ltb n (2 ^ (k - 1))) (pos n) (negsuc (2 ^ k - suc n))
 unfoldable pub unsigned : ℕ → ℤ → ℕ
 unsigned k (pos n) = n
 unsigned k (negsuc n) = 2 ^ k - suc n
-
--- the digit of a value below 16
-unfoldable pub digitOf : ℕ → ℕ
-digitOf v = choose (ltb v 10) (48 + v) (55 + v)
 
 -- the two digits of each byte
 unfoldable pub hexOf : List ℕ → List ℕ

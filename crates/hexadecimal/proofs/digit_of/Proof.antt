@@ -1,17 +1,15 @@
 -- `hexadecimal::digit_of` meets its contract.
-use borrow.Author.Tests.{lt-ltb, le-ltb}
-use Rattle.text.specs.Lines.{digitOf}
 use borrow.Author.Needs.{needs}
+use native.Mathlib.Omega.{arith}
+use Rattle.text.specs.Digits.{decimal-digit, letter-digit}
 use Rattle.hexadecimal.proofs.digit_of.Statement.{statement}
 use Rattle.hexadecimal.proofs.digit_of.Tie as tie
 
 returns : tie.Need-returns
-unfolding digitOf
-returns c = rw (lt-ltb (c .before .args .v) 10 (c .if1 .taken))
+returns c = omega (arith, decimal-digit (c .before .args .v) (omega arith))
 
 returns-2 : tie.Need-returns-2
-unfolding digitOf
-returns-2 c = rw (le-ltb (c .before .args .v) 10 (c .if1 .left))
+returns-2 c = omega (arith, letter-digit (c .before .args .v) (omega arith) (omega arith))
 
 pub digit-of-spec : {M : Type 1} → statement M
 digit-of-spec = tie.close (tie.spec (λ c. search needs) (λ c. search needs) returns returns-2)
