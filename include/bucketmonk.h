@@ -11,9 +11,9 @@
 #include <stdint.h>
 
 #define BUCKETMONK_VERSION_MAJOR 0
-#define BUCKETMONK_VERSION_MINOR 1
+#define BUCKETMONK_VERSION_MINOR 2
 #define BUCKETMONK_VERSION_PATCH 0
-#define BUCKETMONK_VERSION "0.1.0"
+#define BUCKETMONK_VERSION "0.2.0"
 
 #if SIZE_MAX < 0xFFFFFFFFFFFFFFFF
 #error "bucketmonk.h needs a size_t of 64 bits"
@@ -78,24 +78,32 @@ typedef struct {
 #define BUCKETMONK_DIFFERENT 2
 #define BUCKETMONK_CONTRADICTORY 3 /* the set is contradictory */
 
+/* Whether bucketmonk_solve is asked for the blame of a contradiction. Every other number asks for it as BUCKETMONK_BLAME does. */
+#define BUCKETMONK_NO_BLAME 0
+#define BUCKETMONK_BLAME 1
+
 /* Bytes of the pair bits of n terms. */
 #define BUCKETMONK_PAIR_BYTES(n) (((size_t)(n) * (n) + 7) / 8)
 
-/* Solves the set of n terms, m propositions and q questions.
+/* Solves the set of n terms, m propositions and q questions; blame is BUCKETMONK_BLAME or BUCKETMONK_NO_BLAME.
  *
  * Needs: every pointer is valid for the length given after it (in elements), aligned for its type and not null, also where the length
  * is 0; the five lent arrays overlap nothing else. Nothing else is asked: every content of the tables and every length gets an answer.
  * Tables: n terms, m propositions, q questions, or more.
- * Lent: n representatives, n offsets, m marks, BUCKETMONK_PAIR_BYTES(n) pair bytes, q answers, or more.
+ * Lent: n representatives, n offsets, m marks (with blame and without), BUCKETMONK_PAIR_BYTES(n) pair bytes, q answers, or more.
  *
  * Leaves, where the set is satisfiable: for term k its representative (the lowest-numbered term of its class) and its offset from it;
  * marks 0; bit i * n + j of the pair bytes (lowest bit of a byte first) 1 where term i is different from term j; for question k its
- * answer. Where the set is contradictory: each term its own representative at offset 0; mark 1 for each proposition that is blamed;
- * pair bits 0; answers 3. Cells beyond those needed are unchanged. A refused call changes nothing. */
+ * answer. Where the set is contradictory: each term its own representative at offset 0; mark 1 for each proposition that is blamed, 0
+ * for the others, or without blame 0 for all; pair bits 0; answers 3. Cells beyond those needed are unchanged. A refused call changes
+ * nothing.
+ *
+ * A contradiction takes about as long as its verdict alone; with blame, one more verdict for each proposition. */
 size_t bucketmonk_solve(
     size_t n, const bucketmonk_term *terms, size_t terms_length,
     size_t m, const bucketmonk_proposition *propositions, size_t propositions_length,
     size_t q, const bucketmonk_question *questions, size_t questions_length,
+    size_t blame,
     uint32_t *representatives, size_t representatives_length,
     int64_t *offsets, size_t offsets_length,
     uint8_t *marks, size_t marks_length,
@@ -103,7 +111,7 @@ size_t bucketmonk_solve(
     uint8_t *answers, size_t answers_length);
 
 /* The verdict alone on the set of n terms and m propositions: what bucketmonk_solve returns for the set without questions and with
- * enough lent memory. Where the set is contradictory this takes one try, and bucketmonk_solve one more for each proposition.
+ * enough lent memory, with blame or without.
  *
  * Needs: as bucketmonk_solve, for the tables. Leaves nothing: no memory is lent. */
 size_t bucketmonk_verdict(
@@ -147,7 +155,8 @@ size_t bucketmonk_faulty_line(const uint8_t *text, size_t text_length, size_t te
 /* Bytes of the largest output: a verdict, 512 terms and 512 questions. */
 #define BUCKETMONK_LARGEST_OUTPUT 18437
 
-/* Writes to out what the program bucketmonk writes for a text: one frame of hexadecimal digits a line.
+/* Writes to out what the program bucketmonk writes for a text: one frame of hexadecimal digits a line, the blamed propositions of a
+ * contradiction among them.
  *
  * Needs: as bucketmonk_solve of each pointer; out overlaps nothing else. Every text and every length gets an answer.
  * Lent: BUCKETMONK_LARGEST_OUTPUT bytes, or more.
@@ -256,13 +265,13 @@ static inline bucketmonk_memory bucketmonk_memory_not_null(const bucketmonk_memo
     return memory;
 }
 
-/* bucketmonk_solve with the arguments in two structs, which are not changed. */
-static inline size_t bucketmonk_solve_tables(const bucketmonk_tables *tables, const bucketmonk_memory *memory) {
+/* bucketmonk_solve with its tables and lent memory in two structs, which are not changed. */
+static inline size_t bucketmonk_solve_tables(const bucketmonk_tables *tables, size_t blame, const bucketmonk_memory *memory) {
     const bucketmonk_tables t = bucketmonk_tables_not_null(tables);
     const bucketmonk_memory lent = bucketmonk_memory_not_null(memory);
     return bucketmonk_solve(
         t.n, t.terms, t.terms_length, t.m, t.propositions, t.propositions_length, t.q, t.questions, t.questions_length,
-        lent.representatives, lent.representatives_length, lent.offsets, lent.offsets_length, lent.marks, lent.marks_length,
+        blame, lent.representatives, lent.representatives_length, lent.offsets, lent.offsets_length, lent.marks, lent.marks_length,
         lent.pairs, lent.pairs_length, lent.answers, lent.answers_length);
 }
 

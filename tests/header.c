@@ -15,6 +15,7 @@ static void check(const char *what, int holds) {
 
 static bucketmonk_tables tables;
 static bucketmonk_memory lent;
+static size_t asked;
 static const uint8_t *read_text;
 static size_t read_length;
 
@@ -22,6 +23,7 @@ size_t bucketmonk_solve(
     size_t n, const bucketmonk_term *terms, size_t terms_length,
     size_t m, const bucketmonk_proposition *propositions, size_t propositions_length,
     size_t q, const bucketmonk_question *questions, size_t questions_length,
+    size_t blame,
     uint32_t *representatives, size_t representatives_length,
     int64_t *offsets, size_t offsets_length,
     uint8_t *marks, size_t marks_length,
@@ -36,6 +38,7 @@ size_t bucketmonk_solve(
     };
     tables = t;
     lent = l;
+    asked = blame;
     return 17;
 }
 
@@ -82,7 +85,12 @@ static void test_arguments(void) {
     const bucketmonk_memory memory = {
         cells.representatives, 7, cells.offsets, 8, cells.marks, 9, cells.pairs, 10, cells.answers, 11,
     };
-    check("what bucketmonk_solve_tables returns", bucketmonk_solve_tables(&given, &memory) == 17);
+    const size_t numbers[5] = {BUCKETMONK_BLAME, 2, 256, SIZE_MAX, BUCKETMONK_NO_BLAME};
+    for (size_t k = 0; k < 5; k++) {
+        check("what bucketmonk_solve_tables returns", bucketmonk_solve_tables(&given, numbers[k], &memory) == 17);
+        check("the number for blame that bucketmonk_solve_tables passes", asked == numbers[k]);
+    }
+    check("the numbers for blame", BUCKETMONK_NO_BLAME == 0 && BUCKETMONK_BLAME == 1);
     check("the tables that bucketmonk_solve_tables passes", same_tables(&tables, &given));
     check("the memory that bucketmonk_solve_tables passes", same_memory(&lent, &memory));
     check("what bucketmonk_verdict_tables returns", bucketmonk_verdict_tables(&given) == 18);
@@ -97,7 +105,7 @@ static int is_place(const void *pointer) {
 static void test_null(void) {
     const bucketmonk_tables given = {1, NULL, 2, 3, NULL, 4, 5, NULL, 6};
     const bucketmonk_memory memory = {NULL, 7, NULL, 8, NULL, 9, NULL, 10, NULL, 11};
-    bucketmonk_solve_tables(&given, &memory);
+    bucketmonk_solve_tables(&given, BUCKETMONK_BLAME, &memory);
     check("null tables", is_place(tables.terms) && is_place(tables.propositions) && is_place(tables.questions));
     check("lengths of null tables", tables.terms_length + tables.propositions_length + tables.questions_length == 0);
     check("counts of null tables", tables.n == 1 && tables.m == 3 && tables.q == 5);

@@ -281,7 +281,7 @@ unknown() {
   says "$work/told" "bucketmonk: unknown argument: ${3-$2}" 'try bucketmonk --help'
   given "$1" /dev/null "$work/told" "$2"
 }
-says "$work/version" 'bucketmonk 0.1.0'
+says "$work/version" 'bucketmonk 0.2.0'
 given "--version" "$work/version" /dev/null --version
 timeout 10 "$program" --help </dev/null >"$work/help"
 given "--help" "$work/help" /dev/null --help

@@ -17,7 +17,7 @@ from pathlib import Path
 from specs import TOKEN, all_sources, all_specs, comment_start, spec_path, uses
 
 PAGE = Path("crates/promises/specs/Promises.antt")
-MOST = 900
+MOST = 910
 ENTRIES = {
     "solver": ["solve", "verdict"],
     "reader": ["read", "faulty_line"],
@@ -25,7 +25,7 @@ ENTRIES = {
     "bucketmonk_c": ["bucketmonk_solve", "bucketmonk_verdict", "bucketmonk_read", "bucketmonk_faulty_line", "bucketmonk_output"],
 }
 # What contracts name and the page says in full.
-ON_THE_PAGE = {"Answered", "verdictOf", "ReadAs", "WritesOutput", "output", "faultyPart", "readNumber"}
+ON_THE_PAGE = {"Answered", "verdictOf", "ReadAs", "WritesOutput", "output", "faultyPart", "readNumber", "blameOf"}
 # Lines that say nothing by themselves: blank ones, closing brackets, attributes for the compiler.
 UNREAD = re.compile(r"\s*([)}\]]*[;,]?|#\[.*)$")
 

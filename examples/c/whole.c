@@ -30,7 +30,7 @@ int main(void) {
     };
     const bucketmonk_memory lent = bucketmonk_memory_of(&memory);
 
-    size_t result = bucketmonk_solve_tables(&tables, &lent);
+    size_t result = bucketmonk_solve_tables(&tables, BUCKETMONK_NO_BLAME, &lent);
     if (result > BUCKETMONK_CONTRADICTION) {
         printf("refused: %s: place %u\n", bucketmonk_refusal_text(BUCKETMONK_REFUSAL(result)), BUCKETMONK_PLACE(result));
         return 1;

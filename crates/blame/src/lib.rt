@@ -1,12 +1,15 @@
 // The blame for a contradiction. Public for the crate `solver`.
 use consistency::is_consistent;
+use memory::fill;
 use tables::PropositionRow;
 use tables::TermRow;
+use types::Blame;
 use types::PropositionNumber;
 ghost use mathlib.Core.Path.{_≡_};
 ghost use Prim.Native.Nat.{_<_};
-ghost use lib.ListN.{length, getD};
+ghost use lib.ListN.{length, getD, replicate};
 ghost use Rattle.lists.specs.Lent.{before, after};
+ghost use Rattle.outcome.specs.Outcome.{ifAsked};
 ghost use Rattle.tables.specs.Sets.{setOf};
 ghost use Rattle.blame.specs.Kept.{AllKept};
 ghost use Rattle.blame.specs.Blaming.{MarkedSet, tried, blameMarks};
@@ -33,7 +36,7 @@ fn try_drop(
 }
 
 // Marks the blamed propositions of a contradictory set: from the highest number down, each that can be dropped is.
-pub fn blame_marks(
+fn blame_marks(
     terms: &[TermRow],
     propositions: &[PropositionRow],
     marks: &mut [u8],
@@ -55,5 +58,27 @@ pub fn blame_marks(
             offsets,
             PropositionNumber(k),
         );
+    }
+}
+
+// Writes the marks of a contradictory set: 1 for each blamed proposition if blame is asked for, all others 0. The labels are memory to
+// work in.
+pub fn write_marks(
+    blame: Blame,
+    terms: &[TermRow],
+    propositions: &[PropositionRow],
+    marks: &mut [u8],
+    representatives: &mut [u32],
+    offsets: &mut [i64],
+)
+    requires { ⌜ MarkedSet (setOf (now terms) (now propositions)) (now marks) (now representatives) (now offsets) ⌝ }
+    requires { ⌜ AllKept (now marks) (length (now propositions)) ⌝ }
+    ensures { λ _.
+        let blamed = blameMarks (setOf (before terms) (before propositions)) in
+        ⌜ after marks ≡ ifAsked blame blamed (replicate (length (before propositions)) 0) ⌝ }
+{
+    match blame {
+        Blame::Asked => blame_marks(terms, propositions, marks, representatives, offsets),
+        Blame::NotAsked => fill(marks, 0),
     }
 }

@@ -70,7 +70,7 @@ pub(crate) fn answer_argument() {
     let argument = &buffer[..n];
     match asked(argument) {
         Request::Help => put_help(),
-        Request::Version => put(b"bucketmonk 0.1.0\n"),
+        Request::Version => put(b"bucketmonk 0.2.0\n"),
         Request::Unknown => refuse(b"unknown argument: ", argument),
     }
 }

@@ -3,6 +3,7 @@ use Prim.Native.Nat.{ℕ}
 use mathlib.Core.Path.{_≡_}
 use mathlib.Core.List.{List}
 use native.Mathlib.Omega.{arith}
+use Rattle.types.specs.declared.Blame.{Blame}
 use Rattle.types.specs.declared.Fault.{Fault}
 use Rattle.types.specs.declared.Counts.{Counts}
 use Rattle.types.specs.declared.Solved.{Solved}
@@ -20,10 +21,10 @@ use Rattle.solver.specs.Call.{Answered, verdictOf}
 use Rattle.solver.specs.Demands.{refused-exactly, verdict-refused-exactly}
 
 -- the number of what `solve` returns, and the memory that it leaves
-pub record AnsweredNumber (T : Tables) (M N : Memory) (r : ℕ) : Type 0 where
+pub record AnsweredNumber (b : Blame) (T : Tables) (M N : Memory) (r : ℕ) : Type 0 where
   pub solved : Solved
   pub number : r ≡ solvedNumber solved
-  pub answered : Answered T M N solved
+  pub answered : Answered b T M N solved
 
 -- the number of what `read` returns, and the rows that it leaves
 pub record ReadNumber (text : List ℕ) (C : Rows) (r : ℕ) (D : Rows) : Type 0 where
@@ -32,9 +33,9 @@ pub record ReadNumber (text : List ℕ) (C : Rows) (r : ℕ) (D : Rows) : Type 0
   pub read : ReadAs text C result D
 
 -- The number tells a refusal whole: of `solve`, of `verdict`,
-pub solve-tells : (T : Tables) (M N : Memory) (r : ℕ) (A : AnsweredNumber T M N r) (f : Fault) → A .solved ≡ Solved.Refused f → Tells 16 r f
-solve-tells T M N r A f e =
-    let p = call-place T M f (refused-exactly T M N (A .solved) (A .answered) f .0 e) in
+pub solve-tells : (b : Blame) (T : Tables) (M N : Memory) (r : ℕ) (A : AnsweredNumber b T M N r) (f : Fault) → A .solved ≡ Solved.Refused f → Tells 16 r f
+solve-tells b T M N r A f e =
+    let p = call-place T M f (refused-exactly b T M N (A .solved) (A .answered) f .0 e) in
     rw (A .number, e) (solved-tells f (omega arith))
 
 pub verdict-tells : (T : Tables) (f : Fault) → verdictOf T ≡ Solved.Refused f → Tells 16 (solvedNumber (verdictOf T)) f

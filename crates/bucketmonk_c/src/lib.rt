@@ -1,5 +1,6 @@
 // The solver, the reader and the program's output for programs in C. The header is include/bucketmonk.h.
 use driver::write_output;
+use numbers::blame_of;
 use numbers::read_number;
 use numbers::solved_number;
 use reader::faulty_part;
@@ -17,10 +18,10 @@ ghost use Rattle.solver.specs.Call.{unasked, verdictOf};
 ghost use Rattle.frames.specs.Rows.{rows};
 ghost use Rattle.reader.specs.Answers.{faultyPart};
 ghost use Rattle.driver.specs.Within.{WritesOutput};
-ghost use Rattle.numbers.specs.Numbers.{solvedNumber};
+ghost use Rattle.numbers.specs.Numbers.{solvedNumber, blameOf};
 ghost use Rattle.bucketmonk_c.specs.Results.{AnsweredNumber, ReadNumber};
 
-// `solve`, with the number of what it returns.
+// `solve`, with the number of what it returns; 0 for `blame` does not ask for blame, any other number does.
 #[no_mangle]
 pub extern "C" fn bucketmonk_solve(
     n: usize,
@@ -29,6 +30,7 @@ pub extern "C" fn bucketmonk_solve(
     propositions: &[PropositionRow],
     q: usize,
     questions: &[QuestionRow],
+    blame: usize,
     representatives: &mut [u32],
     offsets: &mut [i64],
     marks: &mut [u8],
@@ -39,7 +41,7 @@ pub extern "C" fn bucketmonk_solve(
         let T = tablesOf n (before terms) m (before propositions) q (before questions) in
         let M = memoryOf (before representatives) (before offsets) (before marks) (before pairs) (before answers) in
         let N = memoryOf (after representatives) (after offsets) (after marks) (after pairs) (after answers) in
-        ⌜ AnsweredNumber T M N r ⌝ }
+        ⌜ AnsweredNumber (blameOf blame) T M N r ⌝ }
 {
     solved_number(solve(
         n,
@@ -48,6 +50,7 @@ pub extern "C" fn bucketmonk_solve(
         propositions,
         q,
         questions,
+        blame_of(blame),
         representatives,
         offsets,
         marks,

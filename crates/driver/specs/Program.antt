@@ -5,6 +5,7 @@ use mathlib.Core.Bool.{false}
 use mathlib.Core.List.{List, _++_}
 use mathlib.Core.Option.{none}
 use lib.ListN.{take}
+use Rattle.types.specs.declared.Blame.{Blame}
 use Rattle.types.specs.declared.Fault.{Fault}
 use Rattle.types.specs.declared.Counts.{Counts}
 use Rattle.types.specs.declared.Verdict.{Verdict}
@@ -26,8 +27,8 @@ module _ (text : List ℕ) (C D : Rows) (r : ReadResult) (A : ReadAs text C r D)
   pub output-refused : shortRows C ≡ false → (f : Fault) → r ≡ ReadResult.Refused f → output text ≡ refusalFrame f
   output-refused room f e = output-all text ∙ refused-frames text C r D A room f e
 
-  -- an accepted one those of what `solve` leaves for its tables
-  module _ (c : Counts) (e : r ≡ ReadResult.Accepted c) (M N : Memory) (s : Solved) (B : Answered (readTables c D) M N s) (room : memoryFault (readTables c D) M ≡ none) where
+  -- an accepted one those of what `solve` leaves for its tables, asked for blame
+  module _ (c : Counts) (e : r ≡ ReadResult.Accepted c) (M N : Memory) (s : Solved) (B : Answered Blame.Asked (readTables c D) M N s) (room : memoryFault (readTables c D) M ≡ none) where
     abbrev T : Tables
     T = readTables c D
 
@@ -35,7 +36,7 @@ module _ (text : List ℕ) (C D : Rows) (r : ReadResult) (A : ReadAs text C r D)
     output-is v is =
         output-all text
         ∙ accepted-frames text C r D A c e
-        ∙ ap outcomeFrames (sym (used-run T M N s B (call-accepted T M (accepted-tables text C r D A c e) room) v is))
+        ∙ ap outcomeFrames (sym (used-run Blame.Asked T M N s B (call-accepted T M (accepted-tables text C r D A c e) room) v is))
 
     pub output-satisfiable : s ≡ Solved.Satisfiable → output text ≡ verdictFrame Verdict.Satisfiable ++ (labelFrames 0 (take (c .terms) (N .representatives)) (take (c .terms) (N .offsets)) ++ answerFrames (take (c .questions) (N .answers)))
     unfolding outcomeFrames

@@ -1,16 +1,18 @@
--- The frames that the memory holds after the solver's call on accepted tables.
+-- The frames that the memory holds after the solver's call on accepted tables. Only those of a contradiction need blame.
 use Prim.Native.Nat.{ℕ, _≤_}
-use mathlib.Core.Path.{_≡_, sym, _∙_}
+use mathlib.Core.Path.{_≡_, sym, _∙_, ap}
 use mathlib.Core.Option.{Option, none, some}
 use native.Mathlib.Omega.{arith}
 use native.Mathlib.Nat.{mul-le-mul-left, mul-le-mul-right}
 use lib.IntN.{ℤ, pos}
 use lib.ListN.{length, take, replicate, length-replicate}
 use lib.Seq.{length-take-le}
+use Rattle.types.specs.declared.Blame.{Blame}
 use Rattle.types.specs.declared.Fault.{Fault}
 use Rattle.types.specs.declared.Verdict.{Verdict}
 use Rattle.types.specs.declared.Solved.{Solved}
 use Rattle.outcome.specs.PairBits.{pairBytes}
+use Rattle.outcome.specs.Outcome.{Outcome}
 use Rattle.tables.specs.Limits.{most}
 use Rattle.tables.specs.RefusalLaws.{orElse-none}
 use Rattle.tables.specs.TableFaults.{Tables, Sized, sized, sizesFault, recordsFault, tablesFault}
@@ -18,7 +20,7 @@ use Rattle.tables.specs.Memory.{Memory, memoryOf, callFault, EnoughFor, Beyond,
 use Rattle.text.specs.Output.{labelFrames, blameFrames, middle, outcomeFrames}
 use Rattle.text.specs.OutputSize.{largestOutput, outcome-size}
 use Rattle.writer.specs.Frames.{setFrames}
-use Rattle.solver.specs.Call.{termsOf, propositionsOf, questionsOf, length-terms, length-propositions, length-questions, run, solvedBy, used, Answered}
+use Rattle.solver.specs.Call.{termsOf, propositionsOf, questionsOf, length-terms, length-propositions, length-questions, run, runWith, solvedBy, used, Answered}
 use Rattle.solver.specs.Demands.{used-run, beyond-kept, refused-exactly}
 
 abbrev pub zeroMemory : Memory
@@ -63,9 +65,9 @@ module _ (T : Tables) (accepted : tablesFault most T ≡ none) where
       (omega (arith, length-propositions T, few .few-propositions))
       (omega (arith, length-questions T, few .few-questions))
 
-  module _ (N : Memory) (r : Solved) (a : Answered T zeroMemory N r) where
+  module _ {b : Blame} (N : Memory) (r : Solved) (a : Answered b T zeroMemory N r) where
     beyond : Beyond T zeroMemory N
-    beyond = beyond-kept T zeroMemory N r a no-fault
+    beyond = beyond-kept b T zeroMemory N r a no-fault
 
     pub handed-on : HandedOn T N
     handed-on = record {
@@ -78,19 +80,28 @@ module _ (T : Tables) (accepted : tablesFault most T ≡ none) where
     pub same-labels : length (take (T .terms .count) (N .representatives)) ≡ length (take (T .terms .count) (N .offsets))
     same-labels = let h = handed-on in length-take-le (T .terms .count) (N .representatives) (h .representatives) ∙ sym (length-take-le (T .terms .count) (N .offsets) (h .offsets))
 
-    frames : (v : Verdict) → r ≡ solvedBy v → outcomeFrames (run T) ≡ setFrames v (middle v (used T v N)) (take (T .questions .count) (N .answers))
+    frames : (v : Verdict) → r ≡ solvedBy v → outcomeFrames (runWith b T) ≡ setFrames v (middle v (used T v N)) (take (T .questions .count) (N .answers))
     unfolding outcomeFrames
-    frames v e = rw (← used-run T zeroMemory N r a no-fault v e)
+    frames v e = sym (ap outcomeFrames (used-run b T zeroMemory N r a no-fault v e))
 
     pub satisfiable-frames : r ≡ Solved.Satisfiable
         → outcomeFrames (run T)
         ≡ setFrames Verdict.Satisfiable (labelFrames 0 (take (T .terms .count) (N .representatives)) (take (T .terms .count) (N .offsets))) (take (T .questions .count) (N .answers))
-    satisfiable-frames e = frames Verdict.Satisfiable e
+    unfolding outcomeFrames
+    satisfiable-frames e = same ∙ frames Verdict.Satisfiable e
+      where
+        found : Verdict.Satisfiable ≡ run T .verdict
+        found = ap (λ (o : Outcome). o .verdict) (used-run b T zeroMemory N r a no-fault Verdict.Satisfiable e)
 
-    pub contradiction-frames : r ≡ Solved.Contradiction
+        -- no frame is of the marks
+        same : outcomeFrames (run T) ≡ outcomeFrames (runWith b T)
+        same = rw (← found)
+
+    pub contradiction-frames : b ≡ Blame.Asked
+        → r ≡ Solved.Contradiction
         → outcomeFrames (run T)
         ≡ setFrames Verdict.Contradiction (blameFrames (take (T .propositions .count) (N .marks))) (take (T .questions .count) (N .answers))
-    contradiction-frames e = frames Verdict.Contradiction e
+    contradiction-frames asked e = rw asked at (frames Verdict.Contradiction e)
 
     pub never-refused : (f : Fault) → r ≡ Solved.Refused f → ⊥
-    never-refused f e = not-both (sym no-fault ∙ refused-exactly T zeroMemory N r a f .0 e)
+    never-refused f e = not-both (sym no-fault ∙ refused-exactly b T zeroMemory N r a f .0 e)

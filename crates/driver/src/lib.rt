@@ -4,6 +4,7 @@ use solver::solve;
 use tables::PropositionRow;
 use tables::QuestionRow;
 use tables::TermRow;
+use types::Blame;
 use types::Counts;
 use types::MOST;
 use types::PAIR_BYTES;
@@ -63,6 +64,7 @@ fn answer_set(
         propositions,
         q,
         questions,
+        Blame::Asked,
         &mut representatives,
         &mut offsets,
         &mut marks,

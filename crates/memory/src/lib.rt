@@ -1,4 +1,4 @@
-// The test of the lent memory, and cells that are all written. Public for the crate `solver`.
+// The test of the lent memory, and cells that are all written. Public for the crates `blame` and `solver`.
 use types::Acceptance;
 use types::Refusal;
 use types::refuse;

@@ -1,7 +1,8 @@
--- The number that stands for what a call returns.
-use Prim.Native.Nat.{ℕ, _+_, _*_, _/_, _%_, _^_, _<_, _≤_}
-use mathlib.Core.Path.{_≡_}
+-- The number that stands for what a call returns, and for whether it asks for blame.
+use Prim.Native.Nat.{ℕ, zero, suc, _+_, _*_, _/_, _%_, _^_, _<_, _≤_}
+use mathlib.Core.Path.{_≡_, refl}
 use native.Mathlib.Omega.{arith}
+use Rattle.types.specs.declared.Blame.{Blame}
 use Rattle.types.specs.declared.Refusal.{Refusal}
 use Rattle.types.specs.declared.Fault.{Fault}
 use Rattle.types.specs.declared.Counts.{Counts}
@@ -54,3 +55,15 @@ refused-tells f h = record { refusal = omega arith; place = omega arith }
 
 pub accepted-tells : (c : Counts) → c .terms < 2 ^ 16 → c .propositions < 2 ^ 16 → c .questions < 2 ^ 16 → TellsCounts (readNumber (ReadResult.Accepted c)) c
 accepted-tells c t p q = record { refusal = omega arith; terms = omega arith; propositions = omega arith; questions = omega arith }
+
+-- 0 does not ask for blame, every other number does
+abbrev pub blameOf : ℕ → Blame
+blameOf zero = Blame.NotAsked
+blameOf (suc n) = Blame.Asked
+
+pub asks-unless-zero : (blameOf 0 ≡ Blame.NotAsked) × ((n : ℕ) → 0 < n → blameOf n ≡ Blame.Asked)
+asks-unless-zero = (refl, go)
+  where
+    go : (n : ℕ) → 0 < n → blameOf n ≡ Blame.Asked
+    go zero h = absurd (omega arith)
+    go (suc n) h = refl

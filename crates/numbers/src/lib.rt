@@ -1,4 +1,5 @@
-// One number for all that a call returns, for programs in C. Public for the crate `bucketmonk_c`.
+// One number for all that a call returns, and for a choice that it takes, for programs in C. Public for the crate `bucketmonk_c`.
+use types::Blame;
 use types::ReadResult;
 use types::Refusal;
 use types::Solved;
@@ -6,7 +7,7 @@ use types::refusal_number;
 ghost use Prim.Native.Nat.{_≤_};
 ghost use mathlib.Core.Path.{_≡_};
 ghost use Rattle.types.specs.Numbers.{refusalNumber};
-ghost use Rattle.numbers.specs.Numbers.{solvedNumber, readNumber};
+ghost use Rattle.numbers.specs.Numbers.{solvedNumber, readNumber, blameOf};
 
 // The number of a refusal, as wide as a result.
 fn number_of(r: Refusal) -> usize
@@ -45,4 +46,14 @@ pub fn read_number(r: ReadResult) -> usize
             281474976710656 * number_of(refusal) + fault.place % 281474976710656
         }
     }
+}
+
+// Whether a number asks for blame: 0 does not, every other does.
+pub fn blame_of(number: usize) -> Blame
+    ensures { λ b. ⌜ b ≡ blameOf number ⌝ }
+{
+    if number == 0 {
+        return Blame::NotAsked;
+    }
+    Blame::Asked
 }

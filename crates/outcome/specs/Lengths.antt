@@ -8,6 +8,8 @@ use lib.ListN.{length, set, replicate, length-map, length-replicate, length-set}
 use Rattle.lists.specs.Search.{choose}
 use Rattle.lists.specs.Tabulate.{length-tabulate}
 use Rattle.rules.specs.Terms.{Term, Proposition, Comparison}
+use Rattle.types.specs.declared.Blame.{Blame}
+use Rattle.types.specs.declared.Blame.the-variants.{Asked, NotAsked}
 use Rattle.types.specs.Numbers.{answerNumber}
 use Rattle.closure.specs.Facts.{Facts, facts}
 use Rattle.closure.specs.Join.{Label, placed, own, length-own}
@@ -15,7 +17,7 @@ use Rattle.closure.specs.Closure.{closure, length-closure}
 use Rattle.closure.specs.Verdict.{contradictory}
 use Rattle.outcome.specs.Blame.{keptContradictory, dropBelow, blame}
 use Rattle.outcome.specs.PairBits.{bitValue, pairBytes, pairBits}
-use Rattle.outcome.specs.Outcome.{Outcome, answer, satisfiable, contradiction, outcome}
+use Rattle.outcome.specs.Outcome.{Outcome, answer, satisfiable, contradiction, outcome, ifAsked}
 
 pub record Lengths (ts : List Term) (ps : List Proposition) (qs : List Comparison) (o : Outcome) : Type 0 where
   pub representatives : length (o .representatives) ≡ length ts
@@ -60,3 +62,8 @@ module _ (ts : List Term) (ps : List Proposition) where
         pairs = length-tabulate _ 0 (pairBytes (length ts));
         answers = length-map qs (λ (q : Comparison). answerNumber (answer ts F (placed (closure ts F)) q));
       }
+
+-- and a mark for each proposition in both forms of a call
+pub length-asked : (b : Blame) (marks : List ℕ) → length (ifAsked b marks (replicate (length marks) 0)) ≡ length marks
+length-asked Asked marks = refl
+length-asked NotAsked marks = length-replicate (length marks) 0

@@ -1,4 +1,4 @@
--- What a run on an accepted set leaves.
+-- What a run on an accepted set leaves, and a call that asks for blame or does not.
 use Prim.Native.Nat.{ℕ, zero, suc}
 use mathlib.Core.Bool.{Bool, true, false}
 use mathlib.Core.List.{List, map}
@@ -9,6 +9,8 @@ use Rattle.types.specs.declared.Verdict.{Verdict}
 use Rattle.types.specs.declared.Verdict.the-variants.{Satisfiable, Contradiction}
 use Rattle.types.specs.declared.Answer.{Answer}
 use Rattle.types.specs.declared.Answer.the-variants.{Neither, Equal, Different, Contradictory}
+use Rattle.types.specs.declared.Blame.{Blame}
+use Rattle.types.specs.declared.Blame.the-variants.{Asked, NotAsked}
 use Rattle.types.specs.Numbers.{answerNumber}
 use Rattle.rules.specs.Terms.{Term, Proposition, Comparison}
 use Rattle.rules.specs.Assignments.{Placement}
@@ -62,3 +64,19 @@ outcome ts ps qs =
     let c = contradiction ts ps qs in
     let s = satisfiable ts ps qs in
     choose (contradictory ts (facts ts ps)) c s
+
+-- the first if blame is asked for, else the second
+abbrev pub ifAsked : {A : Type 0} → Blame → A → A → A
+ifAsked Asked a b = a
+ifAsked NotAsked a b = b
+
+-- the outcome as a call leaves it: every mark is 0 unless blame is asked for
+abbrev pub withBlame : Blame → Outcome → Outcome
+withBlame b O = record {
+  verdict = O .verdict;
+  representatives = O .representatives;
+  offsets = O .offsets;
+  marks = ifAsked b (O .marks) (replicate (length (O .marks)) 0);
+  pairs = O .pairs;
+  answers = O .answers;
+}

@@ -2,10 +2,11 @@
 use Prim.Native.Nat.{ℕ}
 use mathlib.Core.Path.{_≡_, refl, sym, _∙_, ap}
 use mathlib.Core.List.{List, _++_}
-use mathlib.Core.Option.{none, some}
+use mathlib.Core.Option.{Option, none, some}
 use lib.ListN.{length, take, drop}
 use lib.Seq.{length-take-le}
 use Rattle.lists.specs.Overwrite.{overwrite}
+use Rattle.types.specs.declared.Blame.{Blame}
 use Rattle.types.specs.declared.Solved.{Solved}
 use Rattle.types.specs.declared.Fault.{Fault}
 use Rattle.types.specs.declared.Acceptance.the-variants.{Accepted, Refused}
@@ -18,8 +19,8 @@ use Rattle.tables.specs.Memory.{Memory, memoryFault, callFault, EnoughFor, enou
 use Rattle.refusals.specs.FirstFault.{accepts, refuses}
 use Rattle.refusals.specs.Parts.{counted, parts-fault}
 use Rattle.columns.specs.Telling.{questionsIn}
-use Rattle.solver.specs.Call.{run, run-lengths, Answered}
-use Rattle.solver.specs.Solving.{Asked, Leaves, Solves}
+use Rattle.solver.specs.Call.{run, runWith, run-lengths, returned, left, Answered}
+use Rattle.solver.specs.Solving.{AcceptedCall, Leaves, Solves}
 use Rattle.solver.specs.Counted.{countedSet, countedQuestions, terms-count, propositions-count, questions-count, counted-terms, counted-propositions, counted-questions, counted-accepted, counted-asked}
 
 -- the first cells of the memory, as many as the counts need
@@ -46,12 +47,12 @@ abbrev countedTables : Tables → Tables
 countedTables T = record { terms = counted (T .terms); propositions = counted (T .propositions); questions = counted (T .questions) }
 
 module _ (T : Tables) (M : Memory) where
-  answered-refused : (f : Fault) → callFault T M ≡ some f → Answered T M M (Solved.Refused f)
-  answered-refused f e = record { returns = rw e; leaves = rw e }
+  answered-refused : (b : Blame) (f : Fault) → callFault T M ≡ some f → Answered b T M M (Solved.Refused f)
+  answered-refused b f e = record { returns = sym (ap (λ (o : Option Fault). returned o T) e); leaves = sym (ap (λ (o : Option Fault). left o b T M) e) }
 
-  pub sizes-refused : {f : Fault} → Refused f ≡ acceptance (sizesFault most T) → Answered T M M (Solved.Refused f)
+  pub sizes-refused : {b : Blame} {f : Fault} → Refused f ≡ acceptance (sizesFault most T) → Answered b T M M (Solved.Refused f)
   unfolding callFault
-  sizes-refused {f} e = answered-refused f (rw (refuses (sizesFault most T) e refl))
+  sizes-refused {b} {f} e = answered-refused b f (rw (refuses (sizesFault most T) e refl))
 
   module _ (sizes : Accepted ≡ acceptance (sizesFault most T)) where
     no-sizes : sizesFault most T ≡ none
@@ -60,9 +61,9 @@ module _ (T : Tables) (M : Memory) where
     pub counts : Sized most T
     counts = sized most T no-sizes
 
-    pub memory-refused : {f : Fault} → Refused f ≡ acceptance (memoryFault T M) → Answered T M M (Solved.Refused f)
+    pub memory-refused : {b : Blame} {f : Fault} → Refused f ≡ acceptance (memoryFault T M) → Answered b T M M (Solved.Refused f)
     unfolding callFault
-    memory-refused {f} e = answered-refused f (rw (no-sizes, refuses (memoryFault T M) e refl))
+    memory-refused {b} {f} e = answered-refused b f (rw (no-sizes, refuses (memoryFault T M) e refl))
 
     module _ (memory : Accepted ≡ acceptance (memoryFault T M)) where
       no-memory : memoryFault T M ≡ none
@@ -71,16 +72,16 @@ module _ (T : Tables) (M : Memory) where
       pub room : EnoughFor T M
       room = enough T M no-memory
 
-      pub records-refused : {f : Fault} → Refused f ≡ acceptance (recordsFault (countedTables T)) → Answered T M M (Solved.Refused f)
+      pub records-refused : {b : Blame} {f : Fault} → Refused f ≡ acceptance (recordsFault (countedTables T)) → Answered b T M M (Solved.Refused f)
       unfolding callFault
-      records-refused {f} e = answered-refused f (rw (no-sizes, no-memory, sym (parts-fault most T counts) ∙ refuses (recordsFault (countedTables T)) e refl))
+      records-refused {b} {f} e = answered-refused b f (rw (no-sizes, no-memory, sym (parts-fault most T counts) ∙ refuses (recordsFault (countedTables T)) e refl))
 
       module _ (records : Accepted ≡ acceptance (recordsFault (countedTables T))) where
         no-records : recordsFault T ≡ none
         no-records = sym (parts-fault most T counts) ∙ accepts (recordsFault (countedTables T)) records refl
 
-        pub asked : Asked (countedSet T) (countedQuestions T) (countedMemory T M)
-        asked =
+        pub accepted-call : AcceptedCall (countedSet T) (countedQuestions T) (countedMemory T M)
+        accepted-call =
             let n = terms-count T counts in
             record {
               accepted = counted-accepted T counts no-records;
@@ -106,14 +107,14 @@ module _ (T : Tables) (M : Memory) where
         front : {A : Type 0} (new cells old : List A) (n : ℕ) → cells ≡ new → length new ≡ n → cells ++ drop n old ≡ overwrite new old
         front new cells old n e l = rw (e, ← l)
 
-        pub answered : (N : Memory) (r : Solved) → Solves (countedSet T) (questionsIn (countedQuestions T)) N r → Answered T M (withCounted T M N) r
+        pub answered : {b : Blame} (N : Memory) (r : Solved) → Solves b (countedSet T) (questionsIn (countedQuestions T)) N r → Answered b T M (withCounted T M N) r
         unfolding memoryWith
-        answered N r S =
-            let L : Leaves (run T) N r = rw run-is at S in
-            let l = run-lengths T in
+        answered {b} N r S =
+            let L : Leaves (runWith b T) N r = rw run-is at S in
+            let l = run-lengths b T in
             let reps = front (run T .representatives) (N .representatives) (M .representatives) (T .terms .count) (L .representatives) (l .representatives) in
             let offs = front (run T .offsets) (N .offsets) (M .offsets) (T .terms .count) (L .offsets) (l .offsets) in
-            let marks = front (run T .marks) (N .marks) (M .marks) (T .propositions .count) (L .marks) (l .marks) in
+            let marks = front (runWith b T .marks) (N .marks) (M .marks) (T .propositions .count) (L .marks) (l .marks) in
             let pairs = front (run T .pairs) (N .pairs) (M .pairs) (pairBytes (T .terms .count)) (L .pairs) (l .pairs) in
             let answers = front (run T .answers) (N .answers) (M .answers) (T .questions .count) (L .answers) (l .answers) in
             record {

@@ -4,14 +4,15 @@ use mathlib.Core.Path.{_≡_, _∙_, ap}
 use mathlib.Core.List.{List, []}
 use mathlib.Core.Option.{Option, none, some}
 use lib.ListN.{length, take}
+use Rattle.types.specs.declared.Blame.{Blame}
 use Rattle.types.specs.declared.Fault.{Fault}
 use Rattle.types.specs.declared.Solved.{Solved}
 use Rattle.types.specs.declared.Verdict.{Verdict}
 use Rattle.types.specs.declared.Verdict.the-variants.{Satisfiable, Contradiction}
 use Rattle.rules.specs.Terms.{Term, Proposition, Comparison}
 use Rattle.outcome.specs.PairBits.{pairBytes}
-use Rattle.outcome.specs.Outcome.{Outcome, outcome}
-use Rattle.outcome.specs.Lengths.{outcome-lengths}
+use Rattle.outcome.specs.Outcome.{Outcome, outcome, withBlame}
+use Rattle.outcome.specs.Lengths.{outcome-lengths, length-asked}
 use Rattle.tables.specs.Limits.{most}
 use Rattle.tables.specs.Rows.{Row, termAt, propositionAt, questionAt}
 use Rattle.tables.specs.TermTable.{termsFrom, length-terms-from}
@@ -43,22 +44,26 @@ length-propositions T = length-propositions-from (T .propositions .count) (propo
 pub length-questions : (T : Tables) → length (questionsOf T) ≡ T .questions .count
 length-questions T = length-questions-from (T .questions .count) (questionAt (T .questions .rows))
 
--- and so are the cells of the outcome
-pub record RunLengths (T : Tables) : Type 0 where
+-- what is left for them, with blame or without
+abbrev pub runWith : Blame → Tables → Outcome
+runWith b T = withBlame b (run T)
+
+-- which has as many cells
+pub record RunLengths (b : Blame) (T : Tables) : Type 0 where
   pub representatives : length (run T .representatives) ≡ T .terms .count
   pub offsets : length (run T .offsets) ≡ T .terms .count
-  pub marks : length (run T .marks) ≡ T .propositions .count
+  pub marks : length (runWith b T .marks) ≡ T .propositions .count
   pub pairs : length (run T .pairs) ≡ pairBytes (T .terms .count)
   pub answers : length (run T .answers) ≡ T .questions .count
 
-pub run-lengths : (T : Tables) → RunLengths T
+pub run-lengths : (b : Blame) (T : Tables) → RunLengths b T
 unfolding run
-run-lengths T =
+run-lengths b T =
     let l = outcome-lengths (termsOf T) (propositionsOf T) (questionsOf T) in
     record {
       representatives = l .representatives ∙ length-terms T;
       offsets = l .offsets ∙ length-terms T;
-      marks = l .marks ∙ length-propositions T;
+      marks = length-asked b (run T .marks) ∙ (l .marks ∙ length-propositions T);
       pairs = l .pairs ∙ ap pairBytes (length-terms T);
       answers = l .answers ∙ length-questions T;
     }
@@ -73,14 +78,14 @@ returned none T = solvedBy (run T .verdict)
 returned (some f) T = Solved.Refused f
 
 -- and every lent cell afterwards: as it was, if the call is refused
-abbrev pub left : Option Fault → Tables → Memory → Memory
-left none T M = memoryWith (run T) M
-left (some f) T M = M
+abbrev pub left : Option Fault → Blame → Tables → Memory → Memory
+left none b T M = memoryWith (runWith b T) M
+left (some f) b T M = M
 
--- the promise of `solve`: of the memory M before the call and N after it
-pub record Answered (T : Tables) (M N : Memory) (result : Solved) : Type 0 where
+-- the promise of `solve`, called with blame or without: of the memory M before the call and N after it
+pub record Answered (b : Blame) (T : Tables) (M N : Memory) (result : Solved) : Type 0 where
   pub returns : result ≡ returned (callFault T M) T
-  pub leaves : N ≡ left (callFault T M) T M
+  pub leaves : N ≡ left (callFault T M) b T M
 
 -- the cells that the tables' counts need, as an outcome
 abbrev pub used : Tables → Verdict → Memory → Outcome

@@ -8,10 +8,11 @@ use mathlib.Core.Option.{Option, none, some}
 use native.Mathlib.Omega.{arith}
 use lib.Arith.{digits-lt}
 use lib.IntN.{ℤ, pos}
-use lib.ListN.{length, getD, set, drop}
+use lib.ListN.{length, getD, set, drop, replicate, getD-replicate}
 use Rattle.integers.specs.Within.{Within}
 use Rattle.lists.specs.Items.{Item, item-below}
 use Rattle.lists.specs.Overwrite.{overwrite, overwritten, take-overwrite, overwrite-keeps}
+use Rattle.types.specs.declared.Blame.{Blame}
 use Rattle.types.specs.declared.Fault.{Fault}
 use Rattle.types.specs.declared.Solved.{Solved}
 use Rattle.types.specs.declared.Verdict.{Verdict}
@@ -26,8 +27,8 @@ use Rattle.closure.specs.Distance.{largest-distance}
 use Rattle.closure.specs.Verdict.{contradictory}
 use Rattle.outcome.specs.PairBits.{bitOf, pairBytes}
 use Rattle.outcome.specs.Marks.{marked, tried}
-use Rattle.outcome.specs.Outcome.{Outcome, outcome}
-use Rattle.outcome.specs.Lengths.{Lengths, outcome-lengths}
+use Rattle.outcome.specs.Outcome.{Outcome, outcome, ifAsked, withBlame}
+use Rattle.outcome.specs.Lengths.{Lengths, outcome-lengths, length-asked}
 use Rattle.outcome.specs.Demands as outcomes
 use Rattle.tables.specs.Limits.{most, offsetLimit}
 use Rattle.tables.specs.Rows.{termAt, propositionAt, questionAt}
@@ -37,7 +38,7 @@ use Rattle.tables.specs.QuestionTable.{question-sides}
 use Rattle.tables.specs.TableFaults as faults
 use Rattle.tables.specs.TableFaults.{Tables, sizesFault, recordsFault, tablesFault, Accepted, unrefused}
 use Rattle.tables.specs.Memory.{Memory, callFault, memoryFault, Beyond, passed, memoryWith}
-use Rattle.solver.specs.Call.{termsOf, propositionsOf, questionsOf, length-terms, run, run-lengths, used, solvedBy, returned, Answered, unasked, verdictOf}
+use Rattle.solver.specs.Call.{termsOf, propositionsOf, questionsOf, length-terms, run, runWith, run-lengths, used, solvedBy, returned, left, Answered, unasked, verdictOf}
 use Rattle.solver.specs.Verdict.{verdict-when}
 
 -- the set that accepted tables hold is well formed
@@ -77,7 +78,7 @@ returned-refused none T f = (λ e. go (run T .verdict) e, λ e. let z : _≡_ {A
 returned-refused (some g) T f = (λ e. let h : g ≡ f = cc in ap some h, λ e. let h : g ≡ f = cc in ap Solved.Refused h)
 
 -- An accepted call of `solve` that is answered as promised: the result r, and the lent memory N afterwards.
-module _ (T : Tables) (M N : Memory) (r : Solved) (A : Answered T M N r) (accepted : callFault T M ≡ none) where
+module _ (b : Blame) (T : Tables) (M N : Memory) (r : Solved) (A : Answered b T M N r) (accepted : callFault T M ≡ none) where
   abbrev ts : List Term
   ts = termsOf T
 
@@ -107,7 +108,7 @@ module _ (T : Tables) (M N : Memory) (r : Solved) (A : Answered T M N r) (accept
       go Verdict.Satisfiable v = refl
       go Verdict.Contradiction v = let s = contradiction-iff .1 v in let z : _≡_ {A = ℕ} 0 1 = cc in absurd (omega arith)
 
-  left-is : N ≡ memoryWith O M
+  left-is : N ≡ memoryWith (withBlame b O) M
   left-is = rw (accepted, run-is) at (A .leaves)
 
   lengths : Lengths ts ps qs O
@@ -121,7 +122,14 @@ module _ (T : Tables) (M N : Memory) (r : Solved) (A : Answered T M N r) (accept
   unfolding memoryWith
   offsets-left = ap (λ (m : Memory). m .offsets) left-is
 
-  marks-left : N .marks ≡ overwrite (O .marks) (M .marks)
+  -- the marks as they are written
+  abbrev written : List ℕ
+  written = withBlame b O .marks
+
+  marks-count : length written ≡ length ps
+  marks-count = length-asked b (O .marks) ∙ lengths .marks
+
+  marks-left : N .marks ≡ overwrite written (M .marks)
   unfolding memoryWith
   marks-left = ap (λ (m : Memory). m .marks) left-is
 
@@ -145,8 +153,12 @@ module _ (T : Tables) (M N : Memory) (r : Solved) (A : Answered T M N r) (accept
     rw offsets-left (overwritten (O .offsets) (M .offsets) t (pos 0) (omega (arith, lengths .offsets))),
   )
 
-  mark-is : (k : ℕ) → k < length ps → getD (N .marks) k 0 ≡ getD (O .marks) k 0
-  mark-is k h = rw marks-left (overwritten (O .marks) (M .marks) k 0 (omega (arith, lengths .marks)))
+  mark-is : (k : ℕ) → k < length ps → getD (N .marks) k 0 ≡ getD written k 0
+  mark-is k h = rw marks-left (overwritten written (M .marks) k 0 (omega (arith, marks-count)))
+
+  -- without blame every mark is 0
+  pub unmarked : b ≡ Blame.NotAsked → (k : ℕ) → k < length ps → getD (N .marks) k 0 ≡ 0
+  unmarked e k h = mark-is k h ∙ rw e (getD-replicate (length (O .marks)) k 0 0 (omega (arith, lengths .marks)))
 
   bit-is : (i : ℕ) → i < 8 * pairBytes (length ts) → bitOf (N .pairs) i ≡ bitOf (O .pairs) i
   unfolding bitOf
@@ -156,9 +168,9 @@ module _ (T : Tables) (M N : Memory) (r : Solved) (A : Answered T M N r) (accept
   answer-is k h = rw answers-left (overwritten (O .answers) (M .answers) k 0 (omega (arith, lengths .answers)))
 
   -- the cells that the set needs hold its outcome
-  pub used-run : (v : Verdict) → r ≡ solvedBy v → used T v N ≡ run T
+  pub used-run : (v : Verdict) → r ≡ solvedBy v → used T v N ≡ runWith b T
   used-run v e =
-      let l = run-lengths T in
+      let l = run-lengths b T in
       let same : v ≡ run T .verdict = solved-same v (run T .verdict) (sym e ∙ rw accepted at (A .returns)) in
       rw (
         same,
@@ -170,7 +182,7 @@ module _ (T : Tables) (M N : Memory) (r : Solved) (A : Answered T M N r) (accept
         ← run-is,
         take-overwrite (run T .representatives) (M .representatives) (T .terms .count) (l .representatives),
         take-overwrite (run T .offsets) (M .offsets) (T .terms .count) (l .offsets),
-        take-overwrite (run T .marks) (M .marks) (T .propositions .count) (l .marks),
+        take-overwrite (runWith b T .marks) (M .marks) (T .propositions .count) (l .marks),
         take-overwrite (run T .pairs) (M .pairs) (pairBytes (T .terms .count)) (l .pairs),
         take-overwrite (run T .answers) (M .answers) (T .questions .count) (l .answers),
       )
@@ -178,12 +190,12 @@ module _ (T : Tables) (M N : Memory) (r : Solved) (A : Answered T M N r) (accept
   -- the others are as they were
   pub beyond-kept : Beyond T M N
   beyond-kept =
-      let l = run-lengths T in
+      let l = run-lengths b T in
       let E = passed T M accepted .enough in
       record {
         representatives = rw (representatives-left, ← run-is) (overwrite-keeps (run T .representatives) (M .representatives) _ (l .representatives) (E .representatives));
         offsets = rw (offsets-left, ← run-is) (overwrite-keeps (run T .offsets) (M .offsets) _ (l .offsets) (E .offsets));
-        marks = rw (marks-left, ← run-is) (overwrite-keeps (run T .marks) (M .marks) _ (l .marks) (E .marks));
+        marks = rw (marks-left, ← run-is) (overwrite-keeps (runWith b T .marks) (M .marks) _ (l .marks) (E .marks));
         pairs = rw (pairs-left, ← run-is) (overwrite-keeps (run T .pairs) (M .pairs) _ (l .pairs) (E .pairs));
         answers = rw (answers-left, ← run-is) (overwrite-keeps (run T .answers) (M .answers) _ (l .answers) (E .answers));
       }
@@ -211,7 +223,11 @@ module _ (T : Tables) (M N : Memory) (r : Solved) (A : Answered T M N r) (accept
 
     -- nothing is blamed
     pub unblamed : (k : ℕ) → k < length ps → getD (N .marks) k 0 ≡ 0
-    unblamed k h = mark-is k h ∙ outcomes.unblamed ts ps qs wf (satisfiable-verdict sat) k h
+    unblamed k h = mark-is k h ∙ go b
+      where
+        go : (c : Blame) → getD (withBlame c O .marks) k 0 ≡ 0
+        go Blame.Asked = outcomes.unblamed ts ps qs wf (satisfiable-verdict sat) k h
+        go Blame.NotAsked = getD-replicate (length (O .marks)) k 0 0 (omega (arith, lengths .marks))
 
     -- a bit of the pair bytes that is no pair's is 0
     pub unused-zero : (i : ℕ) → length ts * length ts ≤ i → i < 8 * pairBytes (length ts) → bitOf (N .pairs) i ≡ 0
@@ -287,24 +303,29 @@ module _ (T : Tables) (M N : Memory) (r : Solved) (A : Answered T M N r) (accept
     pub answers-contradictory : (k : ℕ) → k < length qs → getD (N .answers) k 0 ≡ answerNumber Answer.Contradictory
     answers-contradictory k h = answer-is k h ∙ outcomes.answers-contradictory ts ps qs wf is-con k h
 
-    -- the blamed propositions are contradictory
-    pub blamed-contradictory : Contradiction ts (listed ts (marked (N .marks) ps))
-    blamed-contradictory = rw marks-left (outcomes.blamed-contradictory ts ps qs wf is-con (drop (length (O .marks)) (M .marks)))
+    -- with blame
+    module _ (asked : b ≡ Blame.Asked) where
+      blame-left : N .marks ≡ overwrite (O .marks) (M .marks)
+      blame-left = rw asked at marks-left
 
-    pub blamed-assignments : (P : Placement) → Assignment ts (listed ts (marked (N .marks) ps)) P → ⊥
-    blamed-assignments P A = no-contradiction ts (listed ts (marked (N .marks) ps)) P A blamed-contradictory
+      -- the blamed propositions are contradictory
+      pub blamed-contradictory : Contradiction ts (listed ts (marked (N .marks) ps))
+      blamed-contradictory = rw blame-left (outcomes.blamed-contradictory ts ps qs wf is-con (drop (length (O .marks)) (M .marks)))
 
-    module _ (k : ℕ) (h : k < length ps) where
-      -- without any one of them they have an assignment
-      pub blamed-minimal : getD (N .marks) k 0 ≡ 1 → (P : Placement) × Assignment ts (listed ts (marked (set (N .marks) k 0) ps)) P
-      blamed-minimal = rw marks-left (outcomes.blamed-minimal ts ps qs wf is-con (drop (length (O .marks)) (M .marks)) k h)
+      pub blamed-assignments : (P : Placement) → Assignment ts (listed ts (marked (N .marks) ps)) P → ⊥
+      blamed-assignments P A = no-contradiction ts (listed ts (marked (N .marks) ps)) P A blamed-contradictory
 
-      -- a mark is 0 or 1, and 0 exactly if all before it and the blamed ones after it are contradictory
-      pub blamed-unless : (getD (N .marks) k 0 < 2) × (getD (N .marks) k 0 ≡ 0 ↔ Contradiction ts (listed ts (tried k (N .marks) ps)))
-      blamed-unless = rw marks-left (outcomes.blamed-unless ts ps qs wf is-con (drop (length (O .marks)) (M .marks)) k h)
+      module _ (k : ℕ) (h : k < length ps) where
+        -- without any one of them they have an assignment
+        pub blamed-minimal : getD (N .marks) k 0 ≡ 1 → (P : Placement) × Assignment ts (listed ts (marked (set (N .marks) k 0) ps)) P
+        blamed-minimal = rw blame-left (outcomes.blamed-minimal ts ps qs wf is-con (drop (length (O .marks)) (M .marks)) k h)
+
+        -- a mark is 0 or 1, and 0 exactly if all before it and the blamed ones after it are contradictory
+        pub blamed-unless : (getD (N .marks) k 0 < 2) × (getD (N .marks) k 0 ≡ 0 ↔ Contradiction ts (listed ts (tried k (N .marks) ps)))
+        blamed-unless = rw blame-left (outcomes.blamed-unless ts ps qs wf is-con (drop (length (O .marks)) (M .marks)) k h)
 
 -- a call is refused exactly where it has a fault, and then leaves the memory as it was
-module _ (T : Tables) (M N : Memory) (r : Solved) (A : Answered T M N r) where
+module _ (b : Blame) (T : Tables) (M N : Memory) (r : Solved) (A : Answered b T M N r) where
   pub refused-exactly : (f : Fault) → r ≡ Solved.Refused f ↔ (callFault T M ≡ some f)
   refused-exactly f = rw (A .returns) (returned-refused (callFault T M) T f)
 
@@ -314,13 +335,37 @@ module _ (T : Tables) (M N : Memory) (r : Solved) (A : Answered T M N r) where
   pub answered-else : callFault T M ≡ none → (r ≡ Solved.Satisfiable) ⊎ (r ≡ Solved.Contradiction)
   answered-else e = rw (A .returns, e) (solved-either (run T .verdict))
 
+-- two calls on the same tables and memory, with blame and without, return the same and leave the same but for the marks
+pub forms-agree :
+    (a b : Blame) (T : Tables) (M N N' : Memory) (r r' : Solved) →
+    Answered a T M N r →
+    Answered b T M N' r' →
+    (r ≡ r') × (N .representatives ≡ N' .representatives) × (N .offsets ≡ N' .offsets) × (N .pairs ≡ N' .pairs) × (N .answers ≡ N' .answers)
+unfolding memoryWith
+forms-agree a b T M N N' r r' A B = (
+  A .returns ∙ sym (B .returns),
+  rw (A .leaves, B .leaves) (same (callFault T M) .0),
+  rw (A .leaves, B .leaves) (same (callFault T M) .1),
+  rw (A .leaves, B .leaves) (same (callFault T M) .2),
+  rw (A .leaves, B .leaves) (same (callFault T M) .3),
+)
+  where
+    same :
+        (o : Option Fault) →
+        (left o a T M .representatives ≡ left o b T M .representatives)
+        × (left o a T M .offsets ≡ left o b T M .offsets)
+        × (left o a T M .pairs ≡ left o b T M .pairs)
+        × (left o a T M .answers ≡ left o b T M .answers)
+    same none = (refl, refl, refl, refl)
+    same (some f) = (refl, refl, refl, refl)
+
 -- `solve` returns what `verdict` returns for the tables, accepted or refused, if the lent memory is enough
-pub solve-agrees : (T : Tables) (M N : Memory) (r : Solved) → Answered T M N r → memoryFault T M ≡ none → r ≡ verdictOf T
+pub solve-agrees : (b : Blame) (T : Tables) (M N : Memory) (r : Solved) → Answered b T M N r → memoryFault T M ≡ none → r ≡ verdictOf T
 unfolding callFault tablesFault verdictOf
-solve-agrees T M N r A room = rw room at (A .returns)
+solve-agrees b T M N r A room = rw room at (A .returns)
 
 -- and an accepted call with questions returns the verdict on the set without them
-module _ (T : Tables) (M N : Memory) (r : Solved) (A : Answered T M N r) (accepted : callFault T M ≡ none) where
+module _ (b : Blame) (T : Tables) (M N : Memory) (r : Solved) (A : Answered b T M N r) (accepted : callFault T M ≡ none) where
   abbrev U : Tables
   U = unasked (T .terms .count) (T .terms .rows) (T .propositions .count) (T .propositions .rows)
 

@@ -3,10 +3,11 @@ use Prim.Native.Nat.{ℕ, _≤_}
 use mathlib.Core.Path.{_≡_}
 use mathlib.Core.List.{List}
 use lib.ListN.{length}
+use Rattle.types.specs.declared.Blame.{Blame}
 use Rattle.types.specs.declared.Solved.{Solved}
 use Rattle.rules.specs.Terms.{Comparison}
 use Rattle.outcome.specs.PairBits.{pairBytes}
-use Rattle.outcome.specs.Outcome.{Outcome, outcome}
+use Rattle.outcome.specs.Outcome.{Outcome, outcome, withBlame}
 use Rattle.tables.specs.Limits.{most}
 use Rattle.tables.specs.Rows.{Row, questionAt}
 use Rattle.tables.specs.QuestionTable.{AcceptedQuestions}
@@ -15,7 +16,7 @@ use Rattle.tables.specs.Memory.{Memory}
 use Rattle.solver.specs.Call.{solvedBy}
 
 -- accepted tables, and the memory for them
-pub record Asked (S : Set) (questions : List Row) (M : Memory) : Type 0 where
+pub record AcceptedCall (S : Set) (questions : List Row) (M : Memory) : Type 0 where
   pub accepted : AcceptedSet S
   pub few-propositions : S .propositions ≤ most
   pub accepted-questions : AcceptedQuestions (S .terms) (length questions) (questionAt questions)
@@ -35,5 +36,5 @@ pub record Leaves (O : Outcome) (N : Memory) (result : Solved) : Type 0 where
   pub pairs : N .pairs ≡ O .pairs
   pub answers : N .answers ≡ O .answers
 
-abbrev pub Solves : Set → List Comparison → Memory → Solved → Type 0
-Solves S qs N result = Leaves (outcome (termsIn S) (propositionsIn S) qs) N result
+abbrev pub Solves : Blame → Set → List Comparison → Memory → Solved → Type 0
+Solves b S qs N result = Leaves (withBlame b (outcome (termsIn S) (propositionsIn S) qs)) N result

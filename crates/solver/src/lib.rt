@@ -1,6 +1,6 @@
 // The solver: tables of rows in, every answer of paper 01 out.
 
-use blame::blame_marks;
+use blame::write_marks;
 use columns::tell_differences;
 use consistency::is_consistent;
 use memory::check_memory;
@@ -13,6 +13,7 @@ use tables::QuestionRow;
 use tables::TermRow;
 use types::Acceptance;
 use types::Answer;
+use types::Blame;
 use types::MOST;
 use types::Solved;
 use types::answer_number;
@@ -24,13 +25,14 @@ ghost use Rattle.tables.specs.Memory.{memoryOf};
 ghost use Rattle.tables.specs.TableFaults.{tablesOf};
 ghost use Rattle.columns.specs.Telling.{questionsIn};
 ghost use Rattle.solver.specs.Call.{Answered, unasked, verdictOf};
-ghost use Rattle.solver.specs.Solving.{Asked, Solves};
+ghost use Rattle.solver.specs.Solving.{AcceptedCall, Solves};
 
 // Solves an accepted set in lent memory that has just the cells it needs.
 fn solve_accepted(
     terms: &[TermRow],
     propositions: &[PropositionRow],
     questions: &[QuestionRow],
+    blame: Blame,
     representatives: &mut [u32],
     offsets: &mut [i64],
     marks: &mut [u8],
@@ -38,10 +40,10 @@ fn solve_accepted(
     answers: &mut [u8],
 ) -> Solved
     requires { let M = memoryOf (now representatives) (now offsets) (now marks) (now pairs) (now answers) in
-        ⌜ Asked (setOf (now terms) (now propositions)) (now questions) M ⌝ }
+        ⌜ AcceptedCall (setOf (now terms) (now propositions)) (now questions) M ⌝ }
     ensures { λ r.
         let N = memoryOf (after representatives) (after offsets) (after marks) (after pairs) (after answers) in
-        ⌜ Solves (setOf (before terms) (before propositions)) (questionsIn (before questions)) N r ⌝ }
+        ⌜ Solves blame (setOf (before terms) (before propositions)) (questionsIn (before questions)) N r ⌝ }
 {
     fill(marks, 1);
     if is_consistent(terms, propositions, marks, representatives, offsets) {
@@ -57,15 +59,15 @@ fn solve_accepted(
         );
         return Solved::Satisfiable;
     }
-    blame_marks(terms, propositions, marks, representatives, offsets);
+    write_marks(blame, terms, propositions, marks, representatives, offsets);
     reset(representatives, offsets);
     fill(pairs, 0);
     fill(answers, answer_number(Answer::Contradictory));
     Solved::Contradiction
 }
 
-// Solves the set and answers the questions that the first n, m and q rows hold, and leaves in the lent memory what paper 01 says.
-// Every call is answered: one that is refused changes nothing.
+// Solves the set and answers the questions that the first n, m and q rows hold, and leaves in the lent memory what paper 01 says; on
+// contradiction every mark is 0 unless blame is asked for. Every call is answered: one that is refused changes nothing.
 pub fn solve(
     n: usize,
     terms: &[TermRow],
@@ -73,6 +75,7 @@ pub fn solve(
     propositions: &[PropositionRow],
     q: usize,
     questions: &[QuestionRow],
+    blame: Blame,
     representatives: &mut [u32],
     offsets: &mut [i64],
     marks: &mut [u8],
@@ -83,7 +86,7 @@ pub fn solve(
         let T = tablesOf n (before terms) m (before propositions) q (before questions) in
         let M = memoryOf (before representatives) (before offsets) (before marks) (before pairs) (before answers) in
         let N = memoryOf (after representatives) (after offsets) (after marks) (after pairs) (after answers) in
-        ⌜ Answered T M N r ⌝ }
+        ⌜ Answered blame T M N r ⌝ }
 {
     let sizes = check_sizes(n, terms.len(), m, propositions.len(), q, questions.len());
     if let Acceptance::Refused(fault) = sizes {
@@ -111,6 +114,7 @@ pub fn solve(
         &terms[..n],
         &propositions[..m],
         &questions[..q],
+        blame,
         &mut representatives[..n],
         &mut offsets[..n],
         &mut marks[..m],

@@ -98,6 +98,12 @@ pub struct QuestionRecord {
     pub right: u64,
 }
 
+// Whether a call of the solver asks for the blame of a contradiction.
+pub enum Blame {
+    Asked,
+    NotAsked,
+}
+
 // What a call of the solver returns: the verdict, or the fault of its tables or its lent memory.
 pub enum Solved {
     Satisfiable,

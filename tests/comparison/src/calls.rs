@@ -5,6 +5,7 @@
 //! - `seed S`: the content of the lent memory or tables is drawn from it.
 //! - `counts N M Q`, of a solve: terms, propositions and questions.
 //! - `term KIND NUMBER OFFSET`, `proposition KIND LEFT OFFSET RIGHT`, `question LEFT OFFSET RIGHT`, of a solve: a record of a table.
+//! - `blame K`, of a solve: the number for blame; 0 does not ask for it.
 //! - `more K`, of a solve: so many cells of each array are lent beyond those needed.
 //! - `missing A B C D E`, of a solve: where not 0, so many of the needed cells are not lent, of representatives, offsets, marks, pair bits
 //!   and answers.
@@ -21,7 +22,7 @@ use std::str::FromStr;
 /// What a call is given.
 #[derive(Clone, Debug, PartialEq)]
 pub enum Given {
-    Set { set: Set, more: usize },
+    Set { set: Set, more: usize, blame: usize },
     Text { text: Vec<u8>, room: [usize; 3] },
 }
 
@@ -35,8 +36,8 @@ impl Display for Call {
     fn fmt(&self, f: &mut Formatter) -> Written {
         let Call { seed, given } = self;
         match given {
-            Given::Set { set, more } => {
-                writeln!(f, "solve\nseed {seed:X}\ncounts {} {} {}\nmore {more}", set.n, set.m, set.q)?;
+            Given::Set { set, more, blame } => {
+                writeln!(f, "solve\nseed {seed:X}\ncounts {} {} {}\nmore {more}\nblame {blame}", set.n, set.m, set.q)?;
                 write_records(f, set)?;
                 let [a, b, c, d, e] = set.missing;
                 writeln!(f, "missing {a} {b} {c} {d} {e}")
@@ -90,7 +91,7 @@ impl Call {
     pub fn parse(content: &str) -> Result<Call, String> {
         let mut lines = content.lines();
         let given = match lines.next() {
-            Some("solve") => Given::Set { set: Set::default(), more: 0 },
+            Some("solve") => Given::Set { set: Set::default(), more: 0, blame: 0 },
             Some("read") => Given::Text { text: Vec::new(), room: [0; 3] },
             first => return Err(format!("a call begins with solve or read and not with {first:?}")),
         };
@@ -107,6 +108,7 @@ impl Call {
             (["seed", seed], _) => self.seed = hexadecimal(seed)?,
             (["counts", counts @ ..], Given::Set { set, .. }) => [set.n, set.m, set.q] = numbers(counts)?,
             (["more", cells], Given::Set { more, .. }) => *more = number(cells)?,
+            (["blame", asks], Given::Set { blame, .. }) => *blame = number(asks)?,
             (["missing", cells @ ..], Given::Set { set, .. }) => set.missing = numbers(cells)?,
             (["term", kind, of, z], Given::Set { set, .. }) => {
                 set.tables.terms.push(Term { kind: hexadecimal(kind)?, number: number(of)?, offset: number(z)? });

@@ -15,7 +15,7 @@
 use crate::calls::bytes;
 use crate::proved;
 use second_solver::program::{self, Run};
-use second_solver::tables::{pair_bytes, Outcome};
+use second_solver::tables::{pair_bytes, Blame, Outcome};
 
 pub struct Case {
     text: Vec<u8>,
@@ -69,11 +69,16 @@ impl Case {
         Ok(Case { text, output: ended(block("output:").ok_or("no output block")?), pairs: pairs.transpose()? })
     }
 
-    /// Runs a solver on the case: the output for its text, the same frames from its tables, and the pair bits.
+    /// Runs a solver on the case: the output for its text, the same frames from its tables, the pair bits, and the same without blame but
+    /// for the marks.
     pub fn judge(&self, solver: &Solver) -> Result<(), String> {
         same_frames("output", &self.output, &(solver.run)(&self.text))?;
-        let run = (solver.solve_text)(&self.text);
+        let run = (solver.solve_text)(&self.text, Blame::Asked);
         same_frames("tables", &self.output, &program::frames(&run))?;
+        let without = (solver.solve_text)(&self.text, Blame::NotAsked);
+        if without != (Run { outcome: run.outcome, memory: run.memory.without_marks() }) {
+            return Err("without blame more than the marks differs, or a mark is not 0".into());
+        }
         self.pairs.as_ref().map_or(Ok(()), |pairs| same_pairs(pairs, &run))
     }
 }
@@ -81,7 +86,7 @@ impl Case {
 pub struct Solver {
     pub name: &'static str,
     run: fn(&[u8]) -> Vec<u8>,
-    solve_text: fn(&[u8]) -> Run,
+    solve_text: fn(&[u8], Blame) -> Run,
 }
 
 pub const SOLVERS: [Solver; 2] = [

@@ -5,7 +5,7 @@ use second_solver::memory::{needed, Memory};
 use second_solver::program::{refused, Run};
 use second_solver::reader::Tables;
 use second_solver::support::Numbers;
-use second_solver::tables::{Input, Lent, Outcome, Proposition, Question, Term, LIMIT};
+use second_solver::tables::{Blame, Input, Lent, Outcome, Proposition, Question, Term, LIMIT};
 use std::ops::Range;
 
 extern "C" {
@@ -19,6 +19,7 @@ extern "C" {
         q: usize,
         questions: *const Question,
         questions_length: usize,
+        blame: usize,
         representatives: *mut u32,
         representatives_length: usize,
         offsets: *mut i64,
@@ -84,8 +85,24 @@ fn outcome(code: usize) -> Outcome {
     }
 }
 
-/// Solves the set with the proved solver.
-pub fn solve(input: &Input, lent: &mut Lent) -> Outcome {
+/// What a number for blame means: 0 does not ask for it, any other does.
+pub fn blame(number: usize) -> Blame {
+    match number {
+        0 => Blame::NotAsked,
+        _ => Blame::Asked,
+    }
+}
+
+/// A number that asks for blame, or does not.
+pub fn blame_number(blame: Blame) -> usize {
+    match blame {
+        Blame::NotAsked => 0,
+        Blame::Asked => 1,
+    }
+}
+
+/// Solves the set with the proved solver, with this number for blame.
+pub fn solve(input: &Input, blame: usize, lent: &mut Lent) -> Outcome {
     // SAFETY: each pointer comes with the length of its slice, and the lent slices are exclusive.
     let code = unsafe {
         bucketmonk_solve(
@@ -98,6 +115,7 @@ pub fn solve(input: &Input, lent: &mut Lent) -> Outcome {
             input.q,
             input.questions.as_ptr(),
             input.questions.len(),
+            blame,
             lent.representatives.as_mut_ptr(),
             lent.representatives.len(),
             lent.offsets.as_mut_ptr(),
@@ -181,13 +199,13 @@ pub fn run(text: &[u8]) -> Vec<u8> {
 }
 
 /// Reads a text and runs the proved solver on its tables, with memory of exactly the needed size.
-pub fn solve_text(text: &[u8]) -> Run {
+pub fn solve_text(text: &[u8], blame: Blame) -> Run {
     let mut r = Numbers(7);
     let mut tables = any_tables(&mut r, [LIMIT; 3]);
     match read(text, &mut room(&mut tables)) {
         Ok([n, m, q]) => {
             let mut memory = Memory::new(needed(n, m, q), || r.next());
-            let outcome = solve(&Input { n, m, q, ..tables.input() }, &mut memory.lent());
+            let outcome = solve(&Input { n, m, q, ..tables.input() }, blame_number(blame), &mut memory.lent());
             Run { outcome, memory }
         }
         Err((number, frame)) => refused(number, frame.try_into().expect("a frame of 16 bits")),

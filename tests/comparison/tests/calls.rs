@@ -5,7 +5,7 @@ use comparison::{odd, sets};
 use second_solver::memory::Memory;
 use second_solver::reader::read;
 use second_solver::support::{Numbers, Set};
-use second_solver::tables::{solve, Outcome};
+use second_solver::tables::{solve, Blame, Outcome};
 
 /// A set of any kind: whole, damaged, with odd values, or both.
 fn any_set(r: &mut Numbers) -> Set {
@@ -28,10 +28,10 @@ fn calls_are_parsed_as_they_are_written() {
             let text = (0..r.below(40)).map(|_| if r.one_in(4) { b'\n' } else { r.next() as u8 }).collect();
             Given::Text { text, room: [0; 3].map(|_| r.next() as usize) }
         } else {
-            let (set, more) = (any_set(&mut r), r.below(3));
+            let (set, more, blame) = (any_set(&mut r), r.below(3), r.next() as usize);
             odd += usize::from(!set.fits());
             missing += usize::from(set.missing != [0; 5]);
-            Given::Set { set, more }
+            Given::Set { set, more, blame }
         };
         let call = Call { seed: r.next(), given };
         assert_eq!(Call::parse(&call.to_string()), Ok(call));
@@ -44,7 +44,7 @@ fn other_lines_are_not_part_of_a_call() {
     for file in ["", "\n", "solved\n", "term 1 0 0\n"] {
         assert!(Call::parse(file).is_err(), "{file:?}");
     }
-    let of_solve = ["counts 1 2 3", "more 1", "missing 0 0 0 0 1", "term 1 0 0", "proposition 11 0 -1 0", "question 0 0 0"];
+    let of_solve = ["counts 1 2 3", "more 1", "blame 18446744073709551615", "missing 0 0 0 0 1", "term 1 0 0", "proposition 11 0 -1 0", "question 0 0 0"];
     let of_read = ["room 1 2 3", "bytes 0aF0"];
     for (call, own, other) in [("solve", &of_solve[..], &of_read[..]), ("read", &of_read, &of_solve)] {
         for line in own.iter().chain(&["seed FFFFFFFFFFFFFFFF"]) {
@@ -71,7 +71,7 @@ fn sets_that_fit_are_read_from_their_texts() {
     for _ in 0..20_000 {
         let set = any_set(&mut r);
         let mut memory = Memory::new(set.cells(0), || 0);
-        let outcome = solve(&set.input(), &mut memory.lent());
+        let outcome = solve(&set.input(), Blame::NotAsked, &mut memory.lent());
         if !set.fits() {
             assert!(matches!(outcome, Outcome::Refused { .. }), "{set:?}");
             continue;

@@ -44,6 +44,14 @@ impl Memory {
         }
     }
 
+    /// The same with every mark 0.
+    pub fn without_marks(&self) -> Memory {
+        Memory {
+            marks: vec![0; self.marks.len()],
+            ..self.clone()
+        }
+    }
+
     /// Keeps so many cells of each array and returns those after them.
     pub fn split_off(&mut self, cells: [usize; 5]) -> Memory {
         Memory {

@@ -2,7 +2,7 @@
 
 use crate::memory::{needed, Memory};
 use crate::reader::{read, Tables};
-use crate::tables::{solve, Outcome, LIMIT};
+use crate::tables::{solve, Blame, Outcome, LIMIT};
 
 /// How many bytes of a text are judged.
 pub const JUDGED: usize = 32_768;
@@ -16,17 +16,17 @@ pub struct Run {
 }
 
 /// Runs the solver with memory of exactly the needed size.
-pub fn solve_tables(tables: &Tables) -> Run {
+pub fn solve_tables(tables: &Tables, blame: Blame) -> Run {
     let input = tables.input();
     let mut memory = Memory::new(needed(input.n, input.m, input.q), || 0);
-    let outcome = solve(&input, &mut memory.lent());
+    let outcome = solve(&input, blame, &mut memory.lent());
     Run { outcome, memory }
 }
 
 /// Reads a text and runs the solver on its tables.
-pub fn solve_text(text: &[u8]) -> Run {
+pub fn solve_text(text: &[u8], blame: Blame) -> Run {
     match read(text, [LIMIT; 3]) {
-        Ok(tables) => solve_tables(&tables),
+        Ok(tables) => solve_tables(&tables, blame),
         Err(refusal) => refused(refusal.number, refusal.frame),
     }
 }
@@ -39,9 +39,13 @@ pub fn refused(number: u8, place: u16) -> Run {
     }
 }
 
-/// The program's output for a text; its first 32,768 bytes are judged.
+/// The program's output for a text; its first 32,768 bytes are judged. The
+/// program asks for blame.
 pub fn run(text: &[u8]) -> Vec<u8> {
-    frames(&solve_text(&text[..text.len().min(JUDGED)]))
+    frames(&solve_text(
+        &text[..text.len().min(JUDGED)],
+        Blame::Asked,
+    ))
 }
 
 /// What the program writes for a run.

@@ -80,6 +80,13 @@ pub struct Lent<'a> {
     pub answers: &'a mut [u8],
 }
 
+/// Whether the caller asks for the blame of a contradiction.
+#[derive(Clone, Copy, Debug, PartialEq, Eq)]
+pub enum Blame {
+    Asked,
+    NotAsked,
+}
+
 #[derive(Clone, Copy, Debug, PartialEq, Eq)]
 pub enum Outcome {
     Satisfiable,
@@ -90,16 +97,6 @@ pub enum Outcome {
 /// Number of bytes of the pair bits of n terms.
 pub fn pair_bytes(n: usize) -> usize {
     (n * n).div_ceil(8)
-}
-
-/// Solves the set and fills the lent memory.
-pub fn solve(input: &Input, lent: &mut Lent) -> Outcome {
-    solve_with(input, lent, true)
-}
-
-/// As `solve`, but on contradiction no blame is sought and all marks are 0.
-pub fn solve_without_blame(input: &Input, lent: &mut Lent) -> Outcome {
-    solve_with(input, lent, false)
 }
 
 /// The verdict alone. Refusals are those of `solve` where no memory is lent.
@@ -118,7 +115,9 @@ pub fn verdict_only(input: &Input) -> Outcome {
     }
 }
 
-fn solve_with(input: &Input, lent: &mut Lent, blame: bool) -> Outcome {
+/// Solves the set and fills the lent memory. On contradiction all marks are 0
+/// unless blame is asked for.
+pub fn solve(input: &Input, blame: Blame, lent: &mut Lent) -> Outcome {
     if let Some(refused) = check_counts(input)
         .or_else(|| check_tables(input))
         .or_else(|| check_lent(input, lent))
@@ -145,7 +144,7 @@ fn solve_with(input: &Input, lent: &mut Lent, blame: bool) -> Outcome {
         classes.answer(input, &pairs, &mut lent.answers[..q]);
         Outcome::Satisfiable
     } else {
-        if blame {
+        if blame == Blame::Asked {
             for p in (0..m).rev() {
                 kept[p] = false;
                 if closure.consistent(input, &kept) {

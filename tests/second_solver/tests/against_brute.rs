@@ -5,8 +5,8 @@ use second_solver::memory::Memory;
 use second_solver::program::Run;
 use second_solver::support::{Numbers, Set};
 use second_solver::tables::{
-    self, solve, solve_without_blame, verdict_only, Outcome, Question, AUXILIARY,
-    BLOCK_DISEQUALITY, DEREFERENCE, DISEQUALITY, EQUALITY, VARIABLE,
+    self, solve, verdict_only, Blame, Outcome, Question, AUXILIARY, BLOCK_DISEQUALITY, DEREFERENCE,
+    DISEQUALITY, EQUALITY, VARIABLE,
 };
 
 /// How a random set is drawn.
@@ -93,7 +93,8 @@ fn plain(set: &Set) -> Plain {
     }
 }
 
-/// Runs `tables`, and checks that it leaves the cells beyond those needed.
+/// Runs `tables`, and checks that it leaves the cells beyond those needed, and
+/// that without blame every mark is 0 and all else the same.
 fn solve_set(set: &Set) -> Run {
     // Tables longer than their counts hold records that would be refused.
     let mut longer = set.clone();
@@ -114,13 +115,16 @@ fn solve_set(set: &Set) -> Run {
     let input = longer.input();
     let mut r = Numbers(1);
     let mut before = Memory::new(set.cells(2), || r.next());
-    let mut memory = before.clone();
-    let without = solve_without_blame(&input, &mut memory.lent());
-    let outcome = solve(&input, &mut memory.lent());
+    let [mut memory, mut unmarked] = [before.clone(), before.clone()];
+    let outcome = solve(&input, Blame::Asked, &mut memory.lent());
+    let without = solve(&input, Blame::NotAsked, &mut unmarked.lent());
     assert_eq!(outcome, without);
     assert_eq!(outcome, verdict_only(&input));
     let needed = set.cells(0);
-    assert_eq!(memory.split_off(needed), before.split_off(needed));
+    let beyond = before.split_off(needed);
+    assert_eq!(memory.split_off(needed), beyond);
+    assert_eq!(unmarked.split_off(needed), beyond);
+    assert_eq!(unmarked, memory.without_marks());
     Run { outcome, memory }
 }
 

@@ -4,7 +4,7 @@
 use second_solver::memory::Memory;
 use second_solver::reader::Tables;
 use second_solver::support::{Numbers, Set};
-use second_solver::tables::{solve, verdict_only, Outcome, Proposition, Question, Term};
+use second_solver::tables::{solve, verdict_only, Blame, Outcome, Proposition, Question, Term};
 
 type TermFields = (u64, u64, i64);
 type PropositionFields = (u64, u64, i64, u64);
@@ -49,11 +49,15 @@ fn set_of(
 fn run(set: &Set) -> Outcome {
     let mut r = Numbers(1);
     let before = Memory::new(set.cells(0), || r.next());
-    let mut memory = before.clone();
-    let outcome = solve(&set.input(), &mut memory.lent());
-    if let Outcome::Refused { .. } = outcome {
-        assert_eq!(memory, before);
-    }
+    let [outcome, without] = [Blame::Asked, Blame::NotAsked].map(|blame| {
+        let mut memory = before.clone();
+        let outcome = solve(&set.input(), blame, &mut memory.lent());
+        if let Outcome::Refused { .. } = outcome {
+            assert_eq!(memory, before);
+        }
+        outcome
+    });
+    assert_eq!(outcome, without);
     if set.missing == [0; 5] {
         assert_eq!(outcome, verdict_only(&set.input()));
     }

@@ -6,12 +6,14 @@ use Rattle.bucketmonk_c.proofs.bucketmonk_solve.Tie as tie
 returns : tie.Need-returns
 returns c =
     let s = c .before .before .before .before .before .before .before .before .before .before .solve in
-    record { solved = s .result; number = c .solved-number .ensures; answered = s .ensures }
+    let b = c .before .before .before .before .before .before .before .before .before .before .before .before .before .before .before .before .blame-of .ensures in
+    record { solved = s .result; number = c .solved-number .ensures; answered = rw b at (s .ensures) }
 
 pub bucketmonk-solve-spec : {M : Type 1} → statement M
 bucketmonk-solve-spec =
     tie.close
     (tie.spec
+    (λ c κs. search needs)
     (λ c κs. search needs)
     (λ c κs. search needs)
     (λ c. search needs)

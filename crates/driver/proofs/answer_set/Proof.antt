@@ -1,5 +1,5 @@
 -- `driver::answer_set` meets its contract: the parts of the memory that are handed on hold the outcome.
-use mathlib.Core.Path.{sym}
+use mathlib.Core.Path.{refl, sym}
 use native.Mathlib.Omega.{arith}
 use lib.Seq.{length-take-le}
 use denote.Ref.{now}
@@ -57,7 +57,7 @@ put-contradictory-set-requires c κs =
     let s = c .before .before .before .before .before .before .before .before .before .before .before .before .before .before .before .before .before in
     let k = c .before .before .before .before .before .before .before .before .before .before .solve in
     let e = c .before .before .before .enum-told2 .given .1 in
-    omega (arith, rw (contradiction-frames (tables s) (s .pre .0) _ (k .result) (k .ensures) e) at (run-size (tables s) (s .pre .0)), s .pre .1)
+    omega (arith, rw (contradiction-frames (tables s) (s .pre .0) _ (k .result) (k .ensures) refl e) at (run-size (tables s) (s .pre .0)), s .pre .1)
 
 returns : tie.Need-returns
 returns c =
@@ -71,7 +71,7 @@ returns-2 c =
     let s = c .before .before .before .before .before .before .before .before .before .before .before .before .before .before .before .before .before .before .before .before in
     let k = c .before .before .before .before .before .before .before .before .before .before .before .before .before .solve in
     let e = c .before .before .before .before .before .before .enum-told2 .given .1 in
-    rw (contradiction-frames (tables s) (s .pre .0) _ (k .result) (k .ensures) e) (c .before .before .put-contradictory-set .ensures)
+    rw (contradiction-frames (tables s) (s .pre .0) _ (k .result) (k .ensures) refl e) (c .before .before .put-contradictory-set .ensures)
 
 returns-3 : tie.Need-returns-3
 returns-3 c =

@@ -11,6 +11,7 @@ pub use Rattle.integers.specs.Within.{Within}
 pub use Rattle.lists.specs.Items.{Item}
 pub use Rattle.lists.specs.Search.{choose}
 pub use Rattle.lists.specs.Overwrite.{overwrite}
+pub use Rattle.types.specs.declared.Blame.{Blame}
 pub use Rattle.types.specs.declared.Fault.{Fault}
 pub use Rattle.types.specs.declared.Counts.{Counts}
 pub use Rattle.types.specs.declared.Solved.{Solved}
@@ -18,7 +19,7 @@ pub use Rattle.types.specs.declared.Verdict.{Verdict}
 pub use Rattle.types.specs.declared.Answer.{Answer}
 pub use Rattle.types.specs.declared.ReadResult.{ReadResult}
 pub use Rattle.types.specs.Numbers.{answerNumber}
-pub use Rattle.numbers.specs.Numbers.{solvedNumber, Tells, TellsCounts}
+pub use Rattle.numbers.specs.Numbers.{solvedNumber, Tells, TellsCounts, blameOf, asks-unless-zero}
 pub use Rattle.rules.specs.Terms.{Term, Proposition, Comparison, Given, listed}
 pub use Rattle.rules.specs.Rules.{Equal, Different, Contradiction}
 pub use Rattle.rules.specs.Assignments.{Placement, Holds, Differs, Assignment}

@@ -7,7 +7,7 @@ use Rattle.types.specs.declared.Acceptance.the-variants.{Accepted}
 use Rattle.tables.specs.TableFaults.{Tables, tablesOf, acceptance, sizesFault, Sized}
 use Rattle.tables.specs.Memory.{Memory, memoryOf, memoryFault, EnoughFor}
 use Rattle.tables.specs.Limits.{most, square-small}
-use Rattle.solver.specs.Answering.{sizes-refused, counts, memory-refused, room, records-refused, asked, answered}
+use Rattle.solver.specs.Answering.{sizes-refused, counts, memory-refused, room, records-refused, accepted-call, answered}
 use borrow.Author.Needs.{needs}
 use Rattle.solver.proofs.solve.Statement.{statement}
 use Rattle.solver.proofs.solve.Tie as tie
@@ -97,7 +97,7 @@ slice-aggregate-solve-accepted-8 : tie.Need-slice-aggregate-solve-accepted-8
 slice-aggregate-solve-accepted-8 c = sym (length-take-le _ _ (enough (c .before .before .before .before .before .before .before .before .before .before .before .before .before .before) .answers))
 
 solve-accepted-requires : tie.Need-solve-accepted-requires
-solve-accepted-requires c κs = asked (T (c .before .before .before .before .before .before .before .before .before .before .before .before .before .before .before .before .before .before .before .before .before .before .before .before)) (M (c .before .before .before .before .before .before .before .before .before .before .before .before .before .before .before .before .before .before .before .before .before .before .before .before)) (sizes-pass (c .before .before .before .before .before .before .before .before .before .before .before .before .before .before .before .before .before)) (memory-passes (c .before .before .before .before .before .before .before .before .before .before .before .before .before .before)) (sym ((c .before .before .before .before .before .before .before .before .enum-told3) .given .1) ∙ (c .before .before .before .before .before .before .before .before .before .before .check-records) .ensures)
+solve-accepted-requires c κs = accepted-call (T (c .before .before .before .before .before .before .before .before .before .before .before .before .before .before .before .before .before .before .before .before .before .before .before .before)) (M (c .before .before .before .before .before .before .before .before .before .before .before .before .before .before .before .before .before .before .before .before .before .before .before .before)) (sizes-pass (c .before .before .before .before .before .before .before .before .before .before .before .before .before .before .before .before .before)) (memory-passes (c .before .before .before .before .before .before .before .before .before .before .before .before .before .before)) (sym ((c .before .before .before .before .before .before .before .before .enum-told3) .given .1) ∙ (c .before .before .before .before .before .before .before .before .before .before .check-records) .ensures)
 
 returns-4 : tie.Need-returns-4
 returns-4 c = answered (T (c .before .before .before .before .before .before .before .before .before .before .before .before .before .before .before .before .before .before .before .before .before .before .before .before .before .before .before .before .before .before .before .before .before .before)) (M (c .before .before .before .before .before .before .before .before .before .before .before .before .before .before .before .before .before .before .before .before .before .before .before .before .before .before .before .before .before .before .before .before .before .before)) (sizes-pass (c .before .before .before .before .before .before .before .before .before .before .before .before .before .before .before .before .before .before .before .before .before .before .before .before .before .before .before)) (memory-passes (c .before .before .before .before .before .before .before .before .before .before .before .before .before .before .before .before .before .before .before .before .before .before .before .before)) (sym ((c .before .before .before .before .before .before .before .before .before .before .before .before .before .before .before .before .before .before .enum-told3) .given .1) ∙ (c .before .before .before .before .before .before .before .before .before .before .before .before .before .before .before .before .before .before .before .before .check-records) .ensures) _ _ ((c .before .before .before .before .before .before .before .before .before .solve-accepted) .ensures)

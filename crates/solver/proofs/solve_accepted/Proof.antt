@@ -17,26 +17,26 @@ tell-differences-requires c κs = let s = (c .before .before .before .before .be
 
 returns : tie.Need-returns
 returns c = let s = (c .before .before .before .before .before .before .before .before .before .before .before .before .before .before .before .before .before .before .before .before .before .before .before .before .before .before .before .before .before) .pre in let a = (c .before .before .before .before .before .before .before .before .before .before .before .before .before .before .before .before .before .before .before .before .before .before .before .before .before .before .before .before .before) .args in let ones = ones-kept ((c .before .before .before .before .before .before .before .before .before .before .before .before .before .before .before .before .before .before .before .before .before .before .before .fill) .ensures) (s .marks) in let d = (c .before .before .before .before .before .before .before .before .before .before .before .before .before .before .before .before .before .is-consistent) .ensures in let yes = (c .before .before .before .before .before .before .before .before .before .before .before .before .before .if1) .taken in
-    solves-satisfiable _ (s .accepted) _ _ (labelling _ (s .accepted) (s .few-propositions) ones d yes) (not-contradictory _ (s .accepted) ones d yes) (now (a .questions)) (s .accepted-questions)
+    solves-satisfiable _ (s .accepted) _ _ (labelling _ (s .accepted) (s .few-propositions) ones d yes) (not-contradictory _ (s .accepted) ones d yes) (a .blame) (now (a .questions)) (s .accepted-questions)
     (filled-as 0 ((c .before .before .before .before .before .before .before .before .before .before .before .fill2) .ensures) (filled-count 1 ((c .before .before .before .before .before .before .before .before .before .before .before .before .before .before .before .before .before .before .before .before .before .before .before .fill) .ensures) (s .marks)))
     ((c .before .before .before .before .tell-differences) .ensures .0)
     ((c .before .before .before .before .tell-differences) .ensures .1)
 
-blame-marks-requires : tie.Need-blame-marks-requires
-blame-marks-requires c κs = let s = (c .before .before .before .before .before .before .before .before .before .before .before .before .before .before .before .before .before .before .before) .pre in let k = (c .before .before .before .before .before .before .before .is-consistent) .kept in (record { good = s .accepted; marks-count = filled-count 1 ((c .before .before .before .before .before .before .before .before .before .before .before .before .before .fill) .ensures) (s .marks); reps-count = k .1 .1 .1 .0 ∙ s .representatives; offs-count = k .1 .1 .1 .1 .0 ∙ s .offsets }, ones-kept ((c .before .before .before .before .before .before .before .before .before .before .before .before .before .fill) .ensures) (s .marks))
+write-marks-requires : tie.Need-write-marks-requires
+write-marks-requires c κs = let s = (c .before .before .before .before .before .before .before .before .before .before .before .before .before .before .before .before .before .before .before) .pre in let k = (c .before .before .before .before .before .before .before .is-consistent) .kept in (record { good = s .accepted; marks-count = filled-count 1 ((c .before .before .before .before .before .before .before .before .before .before .before .before .before .fill) .ensures) (s .marks); reps-count = k .1 .1 .1 .0 ∙ s .representatives; offs-count = k .1 .1 .1 .1 .0 ∙ s .offsets }, ones-kept ((c .before .before .before .before .before .before .before .before .before .before .before .before .before .fill) .ensures) (s .marks))
 
 reset-requires : tie.Need-reset-requires
-reset-requires c κs = let s = (c .before .before .before .before .before .before .before .before .before .before .before .before .before .before .before .before .before .before .before .before .before .before .before .before .before .before .before) .pre in let k = (c .before .before .before .before .before .before .before .before .before .before .before .before .before .before .before .is-consistent) .kept in let b = (c .before .before .before .before .before .before .before .blame-marks) .kept in
-    let r = b .1 .1 .1 .0 ∙ (k .1 .1 .1 .0 ∙ s .representatives) in
-    (b .1 .1 .1 .1 .0 ∙ (k .1 .1 .1 .1 .0 ∙ s .offsets) ∙ sym r, rw r (s .accepted .few-terms))
+reset-requires c κs = let s = (c .before .before .before .before .before .before .before .before .before .before .before .before .before .before .before .before .before .before .before .before .before .before .before .before .before .before .before) .pre in let k = (c .before .before .before .before .before .before .before .before .before .before .before .before .before .before .before .is-consistent) .kept in let b = (c .before .before .before .before .before .before .before .write-marks) .kept in
+    let r = b .1 .1 .1 .1 .0 ∙ (k .1 .1 .1 .0 ∙ s .representatives) in
+    (b .1 .1 .1 .1 .1 .0 ∙ (k .1 .1 .1 .1 .0 ∙ s .offsets) ∙ sym r, rw r (s .accepted .few-terms))
 
 returns-2 : tie.Need-returns-2
-returns-2 c = let s = (c .before .before .before .before .before .before .before .before .before .before .before .before .before .before .before .before .before .before .before .before .before .before .before .before .before .before .before .before .before .before .before .before .before .before .before .before .before .before .before .before) .pre in let a = (c .before .before .before .before .before .before .before .before .before .before .before .before .before .before .before .before .before .before .before .before .before .before .before .before .before .before .before .before .before .before .before .before .before .before .before .before .before .before .before .before) .args in let k = (c .before .before .before .before .before .before .before .before .before .before .before .before .before .before .before .before .before .before .before .before .before .before .before .before .before .before .before .before .is-consistent) .kept in let b = (c .before .before .before .before .before .before .before .before .before .before .before .before .before .before .before .before .before .before .before .before .blame-marks) .kept in
-    solves-contradiction _ (s .accepted) (is-contradictory _ (s .accepted) (ones-kept ((c .before .before .before .before .before .before .before .before .before .before .before .before .before .before .before .before .before .before .before .before .before .before .before .before .before .before .before .before .before .before .before .before .before .before .fill) .ensures) (s .marks)) ((c .before .before .before .before .before .before .before .before .before .before .before .before .before .before .before .before .before .before .before .before .before .before .before .before .before .before .before .before .is-consistent) .ensures) ((c .before .before .before .before .before .before .before .before .before .before .before .before .before .before .before .before .before .before .before .before .before .before .before .before .if1) .left)) (now (a .questions))
-    (b .1 .1 .1 .0 ∙ (k .1 .1 .1 .0 ∙ s .representatives))
-    (b .1 .1 .1 .1 .0 ∙ (k .1 .1 .1 .1 .0 ∙ s .offsets))
+returns-2 c = let s = (c .before .before .before .before .before .before .before .before .before .before .before .before .before .before .before .before .before .before .before .before .before .before .before .before .before .before .before .before .before .before .before .before .before .before .before .before .before .before .before .before) .pre in let a = (c .before .before .before .before .before .before .before .before .before .before .before .before .before .before .before .before .before .before .before .before .before .before .before .before .before .before .before .before .before .before .before .before .before .before .before .before .before .before .before .before) .args in let k = (c .before .before .before .before .before .before .before .before .before .before .before .before .before .before .before .before .before .before .before .before .before .before .before .before .before .before .before .before .is-consistent) .kept in let b = (c .before .before .before .before .before .before .before .before .before .before .before .before .before .before .before .before .before .before .before .before .write-marks) .kept in
+    solves-contradiction _ (s .accepted) (is-contradictory _ (s .accepted) (ones-kept ((c .before .before .before .before .before .before .before .before .before .before .before .before .before .before .before .before .before .before .before .before .before .before .before .before .before .before .before .before .before .before .before .before .before .before .fill) .ensures) (s .marks)) ((c .before .before .before .before .before .before .before .before .before .before .before .before .before .before .before .before .before .before .before .before .before .before .before .before .before .before .before .before .is-consistent) .ensures) ((c .before .before .before .before .before .before .before .before .before .before .before .before .before .before .before .before .before .before .before .before .before .before .before .before .if1) .left)) (a .blame) (now (a .questions))
+    (b .1 .1 .1 .1 .0 ∙ (k .1 .1 .1 .0 ∙ s .representatives))
+    (b .1 .1 .1 .1 .1 .0 ∙ (k .1 .1 .1 .1 .0 ∙ s .offsets))
     ((c .before .before .before .before .before .before .before .before .before .before .before .before .reset) .ensures)
-    ((c .before .before .before .before .before .before .before .before .before .before .before .before .before .before .before .before .before .before .before .before .blame-marks) .ensures)
+    ((c .before .before .before .before .before .before .before .before .before .before .before .before .before .before .before .before .before .before .before .before .write-marks) .ensures)
     (filled-as 0 ((c .before .before .before .before .before .before .before .fill3) .ensures) (s .pairs))
     (filled-as 3 (rw ((c .before .before .before .answer-number) .ensures) at ((c .before .before .fill4) .ensures)) (s .answers))
 
@@ -54,7 +54,7 @@ solve-accepted-spec =
     (λ c. search needs)
     (λ c. search needs)
     returns
-    blame-marks-requires
+    write-marks-requires
     reset-requires
     (λ c κs. search needs)
     (λ c κs. search needs)

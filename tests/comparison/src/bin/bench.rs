@@ -1,13 +1,13 @@
 //! The proved solver beside the second solver, in one run: the time of each on sets of eleven families and its ratio, how the time grows
-//! from 128 to 256 to 512 terms, for a whole solve and for the verdict alone; blame on a contradictory full set beside one verdict on
-//! it; and both readers on full texts.
+//! from 128 to 256 to 512 terms, for a whole solve and for the verdict alone; contradictory full sets with blame and without,
+//! beside one verdict on them; and both readers on full texts.
 
 use comparison::memory::any_tables;
 use comparison::{proved, sets};
 use second_solver::memory::Memory;
 use second_solver::reader;
 use second_solver::support::{Numbers, Set};
-use second_solver::tables::{self, Outcome};
+use second_solver::tables::{self, Blame, Outcome};
 use std::hint::black_box;
 use std::time::Instant;
 
@@ -15,6 +15,10 @@ fn memory(set: &Set) -> Memory {
     let mut r = Numbers(7);
     Memory::new(set.cells(0), || r.next())
 }
+
+/// The numbers for blame.
+const NOT_ASKED: usize = 0;
+const ASKED: usize = 1;
 
 /// How many propositions are marked.
 fn blamed(memory: &Memory) -> usize {
@@ -53,8 +57,8 @@ fn family(name: &str, build: fn(&mut Numbers, usize) -> Set) {
         let mut set = build(&mut r, size);
         sets::questions(&mut r, &mut set, size);
         let (input, mut memory) = (set.input(), memory(&set));
-        let theirs = fastest(|| tables::solve(&input, &mut memory.lent()));
-        let ours = fastest(|| proved::solve(&input, &mut memory.lent()));
+        let theirs = fastest(|| tables::solve(&input, Blame::Asked, &mut memory.lent()));
+        let ours = fastest(|| proved::solve(&input, ASKED, &mut memory.lent()));
         let (whole, seconds, outcome) = beside(ours, theirs, last[0]);
         last[0] = Some(seconds);
         let (ours, theirs) = (fastest(|| proved::verdict(&input)), fastest(|| tables::verdict_only(&input)));
@@ -83,33 +87,43 @@ fn families() {
     println!();
 }
 
-/// The median seconds of so many calls.
-fn median(calls: usize, mut call: impl FnMut()) -> f64 {
-    let mut times: Vec<f64> = (0..calls)
-        .map(|_| {
+/// The median seconds of so many calls of each, made by turns.
+fn medians<const N: usize>(calls: usize, mut all: [&mut dyn FnMut(); N]) -> [f64; N] {
+    let mut times = [(); N].map(|_| Vec::new());
+    for _ in 0..calls {
+        for (call, times) in all.iter_mut().zip(&mut times) {
             let start = Instant::now();
             call();
-            start.elapsed().as_secs_f64()
-        })
-        .collect();
-    times.sort_by(f64::total_cmp);
-    times[calls / 2]
+            times.push(start.elapsed().as_secs_f64());
+        }
+    }
+    times.map(|mut times| {
+        times.sort_by(f64::total_cmp);
+        times[calls / 2]
+    })
 }
 
-/// Blame on a contradictory full set, beside one verdict on it. Blame makes a verdict for the set and one for each proposition.
-fn blame(name: &str, set: &Set) {
-    let mut memory = memory(set);
+/// A contradictory set with 512 questions, with blame and without, beside one verdict on it. Blame makes a verdict for the set and one for
+/// each proposition; without it there is one verdict.
+fn blame(name: &str, mut set: Set) {
+    sets::questions(&mut Numbers(7), &mut set, 512);
+    let mut memory = memory(&set);
     let verdict = proved::verdict(&set.input());
-    let one = median(101, || {
+    let alone = &mut || {
         black_box(proved::verdict(black_box(&set.input())));
-    });
-    let whole = median(5, || {
-        black_box(proved::solve(black_box(&set.input()), &mut memory.lent()));
-    });
-    println!(
-        "{name:<12} {} terms {} propositions, {} blamed: {:.3} ms, one verdict {:.3} ms, ratio {:.0}, at most 600 ({verdict:?})",
-        set.n, set.m, blamed(&memory), whole * 1e3, one * 1e3, whole / one
-    );
+    };
+    let without = &mut || {
+        black_box(proved::solve(black_box(&set.input()), NOT_ASKED, &mut memory.lent()));
+    };
+    let [one, without] = medians(1001, [alone, without]);
+    assert_eq!(blamed(&memory), 0);
+    let with = &mut || {
+        black_box(proved::solve(black_box(&set.input()), ASKED, &mut memory.lent()));
+    };
+    let [whole] = medians(5, [with]);
+    println!("{name:<13} {} terms {} propositions {} questions ({verdict:?}): one verdict {:.3} ms", set.n, set.m, set.q, one * 1e3);
+    println!("{:<13} without blame {:.3} ms, ratio {:.2}", "", without * 1e3, without / one);
+    println!("{:<13} with blame, {} blamed, {:.3} ms, ratio {:.0}, at most 600", "", blamed(&memory), whole * 1e3, whole / one);
 }
 
 /// Both readers on a text that fills all tables.
@@ -119,12 +133,13 @@ fn reading(name: &str, set: &Set) {
     let counts = proved::read(&text, &mut proved::room(&mut lent));
     assert_eq!(counts, Ok([512, 512, 512]));
     assert_eq!(reader::read(&text, [512; 3]), Ok(lent.clone()));
-    let ours = median(101, || {
+    let ours = &mut || {
         black_box(proved::read(black_box(&text), &mut proved::room(&mut lent))).ok();
-    });
-    let theirs = median(101, || {
+    };
+    let theirs = &mut || {
         black_box(reader::read(black_box(&text), [512; 3])).ok();
-    });
+    };
+    let [ours, theirs] = medians(101, [ours, theirs]);
     println!(
         "{name:<12} {} bytes: {:.3} ms, second {:.3} ms, ratio {:.2}, at most 10",
         text.len(), ours * 1e3, theirs * 1e3, ours / theirs
@@ -136,11 +151,11 @@ fn main() {
     let mut two = sets::one_class(511);
     two.term(2, 511, 0);
     two.proposition(0x11, 0, 1, 1);
-    blame("blame of few", &two);
+    blame("blame of few", two);
     let mut cycle = sets::one_class(512);
     cycle.proposition(0x11, 0, 0, 511);
-    blame("blame of all", &cycle);
-    blame("beside chains", &sets::cycle_beside_chains(512));
+    blame("blame of all", cycle);
+    blame("beside chains", sets::cycle_beside_chains(512));
     // 512 lines of 15 bytes and 1,024 of 19 are 27,136 bytes. Term 0 has no earlier term to read from, so the longest accepted text has
     // an atom of 7 bytes there: 27,128.
     reading("longest text", &sets::long_lines(&mut Numbers(7), 512, false));

@@ -1,5 +1,5 @@
-//! Compares the proved solver with the second solver: small sets, whole, damaged and with odd values in every field, and full sets.
-//! Every returned value and every lent cell is compared, and so are the cells before those lent, the tables and the verdict alone; past
+//! Compares the proved solver with the second solver: small sets, whole, damaged and with odd values in every field, and full sets, each
+//! with blame and without. Every returned value and every lent cell is compared, and so are the cells before those lent, the tables and the verdict alone; past
 //! each table and lent array is a closed page. Then both readers on small texts, whole and damaged, and full ones. Last line:
 //! "N passed, M failed".
 //!
@@ -17,9 +17,12 @@ use second_solver::tables::{self, Input, Lent, Outcome};
 use std::ops::Range;
 use std::process::ExitCode;
 
+/// Numbers that ask for blame: the header's, and others.
+const ASKING: [usize; 8] = [1, 1, 2, 0xFF, 0x100, 1 << 32, 1 << 63, usize::MAX];
+
 /// The proved solver and the verdict alone; for full sets on the stack that the header states.
-fn solve_proved(input: &Input, lent: &mut Lent) -> [Outcome; 2] {
-    let mut call = || [proved::solve(input, lent), proved::verdict(input)];
+fn solve_proved(input: &Input, blame: usize, lent: &mut Lent) -> [Outcome; 2] {
+    let mut call = || [proved::solve(input, blame, lent), proved::verdict(input)];
     if input.n == 512 {
         proved::on_stack(proved::STACK, call)
     } else {
@@ -160,30 +163,41 @@ impl Run {
         self.count.add(name, result, |stem| call().keep(stem));
     }
 
-    /// Both solvers on a set, with `more` cells lent beyond what is needed. Returns the number of the refusal or 0.
+    /// Both solvers on a set, with `more` cells lent beyond what is needed, without blame and with it, on the same lent memory. Returns
+    /// the number of the refusal or 0.
     fn set(&mut self, r: &mut Numbers, name: &str, set: &Set, more: usize) -> usize {
-        let seed = r.0;
-        let call = || Call { seed, given: Given::Set { set: set.clone(), more } };
-        self.count.record(|stem| call().keep(stem));
-        let before = guarded(r, set.cells(more));
-        let (mut left, mut right) = (before.clone(), before.clone());
-        let (outcomes, tables_kept) = self.held.solve(&set.input(), &mut left, solve_proved);
-        let outcome = tables::solve(&set.input(), &mut right.lent_after(GUARD));
-        let alone = tables::verdict_only(&Input { q: 0, ..set.input() });
+        let asking = r.one_of(&ASKING);
+        self.call(&mut r.clone(), &format!("{name} set without blame"), set, more, 0);
+        let outcome = self.call(r, &format!("{name} set"), set, more, asking);
         let number = match outcome {
             Outcome::Refused { number, .. } => usize::from(number),
             Outcome::Satisfiable => (self.verdicts[0] += 1, 0).1,
             Outcome::Contradiction => (self.verdicts[1] += 1, 0).1,
         };
         self.refusals[number] += 1;
+        number
+    }
+
+    /// Both solvers on a set, with this number for blame. Returns the outcome.
+    fn call(&mut self, r: &mut Numbers, name: &str, set: &Set, more: usize, blame: usize) -> Outcome {
+        let seed = r.0;
+        let call = || Call { seed, given: Given::Set { set: set.clone(), more, blame } };
+        self.count.record(|stem| call().keep(stem));
+        let before = guarded(r, set.cells(more));
+        let (mut left, mut right) = (before.clone(), before.clone());
+        let solve = |input: &Input, lent: &mut Lent| solve_proved(input, blame, lent);
+        let (outcomes, tables_kept) = self.held.solve(&set.input(), &mut left, solve);
+        let outcome = tables::solve(&set.input(), proved::blame(blame), &mut right.lent_after(GUARD));
+        let alone = tables::verdict_only(&Input { q: 0, ..set.input() });
+        let refused = matches!(outcome, Outcome::Refused { .. });
         let wrong = match () {
             _ if !tables_kept => Some("the tables are changed"),
-            _ if number != 0 && left != before => Some("a refused call changes memory"),
+            _ if refused && left != before => Some("a refused call changes memory"),
             _ => None,
         };
         let (ours, theirs) = (Solved { outcomes, memory: left }, Solved { outcomes: [outcome, alone], memory: right });
-        self.judge(&format!("{name} set"), &ours, &theirs, wrong, call);
-        number
+        self.judge(name, &ours, &theirs, wrong, call);
+        outcome
     }
 
     /// Odd values in one field, each in a few sets.
@@ -278,7 +292,7 @@ fn compare_one(file: &str) -> ExitCode {
     let content = std::fs::read_to_string(file).map_err(|error| error.to_string());
     let mut run = Run::new(Count::plain(), true);
     match content.and_then(|content| Call::parse(&content)) {
-        Ok(Call { seed, given: Given::Set { set, more } }) => drop(run.set(&mut Numbers(seed), "the", &set, more)),
+        Ok(Call { seed, given: Given::Set { set, more, blame } }) => drop(run.call(&mut Numbers(seed), "the set", &set, more, blame)),
         Ok(Call { seed, given: Given::Text { text, room } }) => run.text(&mut Numbers(seed), &text, room),
         Err(error) => run.count.fail(&format!("{file}: {error}")),
     }

@@ -10,6 +10,7 @@ use comparison::proved::{self, LARGEST_OUTPUT};
 use comparison::texts::{self, Text, DAMAGES};
 use second_solver::program::{self, JUDGED};
 use second_solver::support::Numbers;
+use second_solver::tables::Blame;
 use std::collections::hash_map::DefaultHasher;
 use std::collections::HashSet;
 use std::hash::{Hash, Hasher};
@@ -141,7 +142,7 @@ impl Run {
             _ => Ok(()),
         };
         // judging the first 32,768 bytes gives the same answer as judging all
-        if bytes.len() > JUDGED && result.is_ok() && program::frames(&program::solve_text(bytes)) != expected {
+        if bytes.len() > JUDGED && result.is_ok() && program::frames(&program::solve_text(bytes, Blame::Asked)) != expected {
             result = Err("the second solver judges the whole text otherwise".into());
         }
         let more = [0, 1, 1000][self.calls % 3];
