@@ -42,10 +42,7 @@ pub fn refused(number: u8, place: u16) -> Run {
 /// The program's output for a text; its first 32,768 bytes are judged. The
 /// program asks for blame.
 pub fn run(text: &[u8]) -> Vec<u8> {
-    frames(&solve_text(
-        &text[..text.len().min(JUDGED)],
-        Blame::Asked,
-    ))
+    frames(&solve_text(&text[..text.len().min(JUDGED)], Blame::Asked))
 }
 
 /// What the program writes for a run.
