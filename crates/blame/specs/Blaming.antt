@@ -12,6 +12,7 @@ use Rattle.lists.specs.Items.{item-map, getD-item}
 use Rattle.lists.specs.Search.{choose}
 use Rattle.labels.specs.Relabel.{same-or-not}
 use Rattle.outcome.specs.Blame.{keptContradictory, dropBelow, blame}
+use Rattle.outcome.specs.Lengths.{length-blame}
 use Rattle.outcome.specs.PairBits.{bitValue}
 use Rattle.tables.specs.PropositionTable.{length-propositions-from}
 use Rattle.tables.specs.Sets.{Set, AcceptedSet, termsIn, propositionsIn}
@@ -29,6 +30,10 @@ pub record MarkedSet (S : Set) (marks reps : List ℕ) (offs : List ℤ) : Type 
 -- the marks of the blamed propositions
 abbrev pub blameMarks : Set → List ℕ
 blameMarks S = map bitValue (blame (termsIn S) (propositionsIn S))
+
+pub length-blame-marks : (S : Set) → length (blameMarks S) ≡ S .propositions
+length-blame-marks S =
+    length-map (blame (termsIn S) (propositionsIn S)) bitValue ∙ (length-blame (termsIn S) (propositionsIn S) ∙ length-propositions-from (S .propositions) (S .proposition))
 
 -- the marks after proposition p was tried
 unfoldable pub tried : Set → List ℕ → ℕ → List ℕ

@@ -7,9 +7,9 @@ use types::Blame;
 use types::PropositionNumber;
 ghost use mathlib.Core.Path.{_≡_};
 ghost use Prim.Native.Nat.{_<_};
-ghost use lib.ListN.{length, getD, replicate};
+ghost use lib.ListN.{length, getD};
 ghost use Rattle.lists.specs.Lent.{before, after};
-ghost use Rattle.outcome.specs.Outcome.{ifAsked};
+ghost use Rattle.outcome.specs.Outcome.{marksIf};
 ghost use Rattle.tables.specs.Sets.{setOf};
 ghost use Rattle.blame.specs.Kept.{AllKept};
 ghost use Rattle.blame.specs.Blaming.{MarkedSet, tried, blameMarks};
@@ -73,9 +73,7 @@ pub fn write_marks(
 )
     requires { ⌜ MarkedSet (setOf (now terms) (now propositions)) (now marks) (now representatives) (now offsets) ⌝ }
     requires { ⌜ AllKept (now marks) (length (now propositions)) ⌝ }
-    ensures { λ _.
-        let blamed = blameMarks (setOf (before terms) (before propositions)) in
-        ⌜ after marks ≡ ifAsked blame blamed (replicate (length (before propositions)) 0) ⌝ }
+    ensures { λ _. ⌜ after marks ≡ marksIf blame (blameMarks (setOf (before terms) (before propositions))) ⌝ }
 {
     match blame {
         Blame::Asked => blame_marks(terms, propositions, marks, representatives, offsets),

@@ -1,7 +1,7 @@
 -- A run leaves a representative and an offset for each term, a mark for each proposition, a bit for each pair of terms, an answer for
 -- each question.
 use Prim.Native.Nat.{ℕ, zero, suc}
-use mathlib.Core.Path.{_≡_, refl, _∙_}
+use mathlib.Core.Path.{_≡_, refl, _∙_, ap}
 use mathlib.Core.Bool.{Bool, true, false}
 use mathlib.Core.List.{List}
 use lib.ListN.{length, set, replicate, length-map, length-replicate, length-set}
@@ -17,7 +17,7 @@ use Rattle.closure.specs.Closure.{closure, length-closure}
 use Rattle.closure.specs.Verdict.{contradictory}
 use Rattle.outcome.specs.Blame.{keptContradictory, dropBelow, blame}
 use Rattle.outcome.specs.PairBits.{bitValue, pairBytes, pairBits}
-use Rattle.outcome.specs.Outcome.{Outcome, answer, satisfiable, contradiction, outcome, ifAsked}
+use Rattle.outcome.specs.Outcome.{Outcome, answer, satisfiable, contradiction, outcome, marksIf}
 
 pub record Lengths (ts : List Term) (ps : List Proposition) (qs : List Comparison) (o : Outcome) : Type 0 where
   pub representatives : length (o .representatives) ≡ length ts
@@ -63,7 +63,12 @@ module _ (ts : List Term) (ps : List Proposition) where
         answers = length-map qs (λ (q : Comparison). answerNumber (answer ts F (placed (closure ts F)) q));
       }
 
--- and a mark for each proposition in both forms of a call
-pub length-asked : (b : Blame) (marks : List ℕ) → length (ifAsked b marks (replicate (length marks) 0)) ≡ length marks
-length-asked Asked marks = refl
-length-asked NotAsked marks = length-replicate (length marks) 0
+-- and a mark for each proposition with blame and without
+pub length-marks : (b : Blame) (marks : List ℕ) → length (marksIf b marks) ≡ length marks
+length-marks Asked marks = refl
+length-marks NotAsked marks = length-replicate (length marks) 0
+
+-- marks that are all 0 stay so
+pub marks-of-zeros : (b : Blame) (n : ℕ) → marksIf b (replicate n 0) ≡ replicate n 0
+marks-of-zeros Asked n = refl
+marks-of-zeros NotAsked n = ap (λ (k : ℕ). replicate k 0) (length-replicate n 0)

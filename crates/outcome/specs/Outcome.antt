@@ -70,13 +70,17 @@ abbrev pub ifAsked : {A : Type 0} → Blame → A → A → A
 ifAsked Asked a b = a
 ifAsked NotAsked a b = b
 
--- the outcome as a call leaves it: every mark is 0 unless blame is asked for
+-- the marks as a call leaves them: all 0 unless blame is asked for
+abbrev pub marksIf : Blame → List ℕ → List ℕ
+marksIf b marks = ifAsked b marks (replicate (length marks) 0)
+
+-- and with them the outcome
 abbrev pub withBlame : Blame → Outcome → Outcome
 withBlame b O = record {
   verdict = O .verdict;
   representatives = O .representatives;
   offsets = O .offsets;
-  marks = ifAsked b (O .marks) (replicate (length (O .marks)) 0);
+  marks = marksIf b (O .marks);
   pairs = O .pairs;
   answers = O .answers;
 }

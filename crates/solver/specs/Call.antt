@@ -12,7 +12,7 @@ use Rattle.types.specs.declared.Verdict.the-variants.{Satisfiable, Contradictio
 use Rattle.rules.specs.Terms.{Term, Proposition, Comparison}
 use Rattle.outcome.specs.PairBits.{pairBytes}
 use Rattle.outcome.specs.Outcome.{Outcome, outcome, withBlame}
-use Rattle.outcome.specs.Lengths.{outcome-lengths, length-asked}
+use Rattle.outcome.specs.Lengths.{outcome-lengths, length-marks}
 use Rattle.tables.specs.Limits.{most}
 use Rattle.tables.specs.Rows.{Row, termAt, propositionAt, questionAt}
 use Rattle.tables.specs.TermTable.{termsFrom, length-terms-from}
@@ -63,7 +63,7 @@ run-lengths b T =
     record {
       representatives = l .representatives ∙ length-terms T;
       offsets = l .offsets ∙ length-terms T;
-      marks = length-asked b (run T .marks) ∙ (l .marks ∙ length-propositions T);
+      marks = length-marks b (run T .marks) ∙ (l .marks ∙ length-propositions T);
       pairs = l .pairs ∙ ap pairBytes (length-terms T);
       answers = l .answers ∙ length-questions T;
     }

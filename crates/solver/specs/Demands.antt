@@ -8,7 +8,7 @@ use mathlib.Core.Option.{Option, none, some}
 use native.Mathlib.Omega.{arith}
 use lib.Arith.{digits-lt}
 use lib.IntN.{ℤ, pos}
-use lib.ListN.{length, getD, set, drop, replicate, getD-replicate}
+use lib.ListN.{length, getD, set, drop, getD-replicate}
 use Rattle.integers.specs.Within.{Within}
 use Rattle.lists.specs.Items.{Item, item-below}
 use Rattle.lists.specs.Overwrite.{overwrite, overwritten, take-overwrite, overwrite-keeps}
@@ -27,8 +27,8 @@ use Rattle.closure.specs.Distance.{largest-distance}
 use Rattle.closure.specs.Verdict.{contradictory}
 use Rattle.outcome.specs.PairBits.{bitOf, pairBytes}
 use Rattle.outcome.specs.Marks.{marked, tried}
-use Rattle.outcome.specs.Outcome.{Outcome, outcome, ifAsked, withBlame}
-use Rattle.outcome.specs.Lengths.{Lengths, outcome-lengths, length-asked}
+use Rattle.outcome.specs.Outcome.{Outcome, outcome, withBlame}
+use Rattle.outcome.specs.Lengths.{Lengths, outcome-lengths, length-marks}
 use Rattle.outcome.specs.Demands as outcomes
 use Rattle.tables.specs.Limits.{most, offsetLimit}
 use Rattle.tables.specs.Rows.{termAt, propositionAt, questionAt}
@@ -127,7 +127,7 @@ module _ (b : Blame) (T : Tables) (M N : Memory) (r : Solved) (A : Answered b T 
   written = withBlame b O .marks
 
   marks-count : length written ≡ length ps
-  marks-count = length-asked b (O .marks) ∙ lengths .marks
+  marks-count = length-marks b (O .marks) ∙ lengths .marks
 
   marks-left : N .marks ≡ overwrite written (M .marks)
   unfolding memoryWith
@@ -156,9 +156,12 @@ module _ (b : Blame) (T : Tables) (M N : Memory) (r : Solved) (A : Answered b T 
   mark-is : (k : ℕ) → k < length ps → getD (N .marks) k 0 ≡ getD written k 0
   mark-is k h = rw marks-left (overwritten written (M .marks) k 0 (omega (arith, marks-count)))
 
+  zero-mark : (k : ℕ) → k < length ps → getD (withBlame Blame.NotAsked O .marks) k 0 ≡ 0
+  zero-mark k h = getD-replicate (length (O .marks)) k 0 0 (omega (arith, lengths .marks))
+
   -- without blame every mark is 0
   pub unmarked : b ≡ Blame.NotAsked → (k : ℕ) → k < length ps → getD (N .marks) k 0 ≡ 0
-  unmarked e k h = mark-is k h ∙ rw e (getD-replicate (length (O .marks)) k 0 0 (omega (arith, lengths .marks)))
+  unmarked e k h = mark-is k h ∙ rw e (zero-mark k h)
 
   bit-is : (i : ℕ) → i < 8 * pairBytes (length ts) → bitOf (N .pairs) i ≡ bitOf (O .pairs) i
   unfolding bitOf
@@ -227,7 +230,7 @@ module _ (b : Blame) (T : Tables) (M N : Memory) (r : Solved) (A : Answered b T 
       where
         go : (c : Blame) → getD (withBlame c O .marks) k 0 ≡ 0
         go Blame.Asked = outcomes.unblamed ts ps qs wf (satisfiable-verdict sat) k h
-        go Blame.NotAsked = getD-replicate (length (O .marks)) k 0 0 (omega (arith, lengths .marks))
+        go Blame.NotAsked = zero-mark k h
 
     -- a bit of the pair bytes that is no pair's is 0
     pub unused-zero : (i : ℕ) → length ts * length ts ≤ i → i < 8 * pairBytes (length ts) → bitOf (N .pairs) i ≡ 0

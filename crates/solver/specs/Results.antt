@@ -5,12 +5,11 @@ use mathlib.Core.Bool.{Bool, true, false}
 use mathlib.Core.List.{List, [], _∷_, map}
 use native.Mathlib.Omega.{arith}
 use lib.IntN.{ℤ, pos}
-use lib.ListN.{length, getD, replicate, length-map, length-replicate}
+use lib.ListN.{length, getD, replicate, length-map}
 use lib.Seq.{ext-getD}
 use Rattle.lists.specs.Booleans.{same-truth}
 use Rattle.lists.specs.Items.{Item, item-map, getD-item}
 use Rattle.types.specs.declared.Blame.{Blame}
-use Rattle.types.specs.declared.Blame.the-variants.{Asked, NotAsked}
 use Rattle.types.specs.declared.Solved.{Solved}
 use Rattle.types.specs.Numbers.{answerNumber}
 use Rattle.rules.specs.Terms.{Term, Proposition, Comparison, listed, WellFormed}
@@ -23,10 +22,9 @@ use Rattle.closure.specs.Join.{Label, unlabelled, placed, rep-at, off-at, own, 
 use Rattle.closure.specs.Closure.{closure, length-closure}
 use Rattle.closure.specs.Verdict.{holds, holds-true, true-holds, contradictory, closure-canonical, canonical-computed}
 use Rattle.closure.specs.Differences.{different, different-exact}
-use Rattle.outcome.specs.Blame.{blame}
-use Rattle.outcome.specs.PairBits.{bitValue, pairBits, pairBytes}
-use Rattle.outcome.specs.Outcome.{Outcome, answer, satisfiable, contradiction, outcome, ifAsked}
-use Rattle.outcome.specs.Lengths.{length-blame}
+use Rattle.outcome.specs.PairBits.{pairBits, pairBytes}
+use Rattle.outcome.specs.Outcome.{Outcome, answer, satisfiable, contradiction, outcome, marksIf}
+use Rattle.outcome.specs.Lengths.{marks-of-zeros}
 use Rattle.pairbits.specs.Bits.{pairBits-same}
 use Rattle.tables.specs.Limits.{most}
 use Rattle.tables.specs.Rows.{Row, questionAt}
@@ -43,11 +41,6 @@ use Rattle.columns.specs.Telling.{factsIn, pairsBy, answersBy, questionsIn, Lab
 use Rattle.solver.specs.Solving.{Leaves, Solves}
 use Rattle.blame.specs.Kept.{AllKept, isContradictory, kept-listed, set-well-formed, decided-all}
 use Rattle.blame.specs.Blaming.{blameMarks}
-
--- marks that are all 0 are so in both forms of a call
-no-marks : (b : Blame) (n : ℕ) → let none = replicate {A = ℕ} n 0 in none ≡ ifAsked b none (replicate (length none) 0)
-no-marks Asked n = refl
-no-marks NotAsked n = ap (λ (k : ℕ). replicate k 0) (sym (length-replicate n 0))
 
 module _ (S : Set) (good : AcceptedSet S) where
   abbrev ts : List Term
@@ -154,7 +147,7 @@ module _ (S : Set) (good : AcceptedSet S) where
           verdict = refl;
           representatives = reps-computed;
           offsets = offs-computed;
-          marks = em ∙ (ap (λ (k : ℕ). replicate k 0) (sym (length-propositions-from (S .propositions) (S .proposition))) ∙ no-marks b (length ps));
+          marks = em ∙ (ap (λ (k : ℕ). replicate k 0) (sym (length-propositions-from (S .propositions) (S .proposition))) ∙ sym (marks-of-zeros b (length ps)));
           pairs = ep ∙ pairs-computed;
           answers = ea ∙ answers-computed (questionsIn rows) (λ k c i. question-sides (S .terms) (length rows) (questionAt rows) accepted k i);
         })
@@ -187,16 +180,13 @@ module _ (S : Set) (good : AcceptedSet S) where
         F .position t (omega (arith, n, k))
         ∙ sym (item-map (λ (x : Label). x .off) (own 0 (length ts)) t (pos 0) (getD-item (own 0 (length ts)) t unlabelled (omega (arith, m))) ∙ ap (λ (x : Label). x .off) (own-label (length ts) t b)))
 
-    blame-count : length (blameMarks S) ≡ S .propositions
-    blame-count = length-map (blame ts ps) bitValue ∙ (length-blame ts ps ∙ length-propositions-from (S .propositions) (S .proposition))
-
     pub solves-contradiction :
         (b : Blame) (rows : List Row) →
         {reps0 reps : List ℕ} {offs0 offs : List ℤ} {marks pairs answers : List ℕ} →
         length reps0 ≡ S .terms →
         length offs0 ≡ S .terms →
         Cleared reps0 offs0 reps offs →
-        marks ≡ ifAsked b (blameMarks S) (replicate (S .propositions) 0) →
+        marks ≡ marksIf b (blameMarks S) →
         pairs ≡ replicate (pairBytes (S .terms)) 0 →
         answers ≡ replicate (length rows) 3 →
         Solves b S (questionsIn rows) (record { representatives = reps; offsets = offs; marks = marks; pairs = pairs; answers = answers }) Solved.Contradiction
@@ -209,7 +199,7 @@ module _ (S : Set) (good : AcceptedSet S) where
           verdict = refl;
           representatives = own-reps reps offs n (K .own);
           offsets = own-offs reps offs n k (K .own);
-          marks = em ∙ ap (λ (k : ℕ). ifAsked b (blameMarks S) (replicate k 0)) (sym blame-count);
+          marks = em;
           pairs = ep ∙ rw count;
           answers = ea ∙ rw (length-questions-from (length rows) (questionAt rows));
         })

@@ -85,19 +85,22 @@ fn outcome(code: usize) -> Outcome {
     }
 }
 
-/// What a number for blame means: 0 does not ask for it, any other does.
+/// The header's numbers for blame.
+pub const NO_BLAME: usize = 0;
+pub const BLAME: usize = 1;
+
+/// What a number for blame means: `NO_BLAME` does not ask for it, any other does.
 pub fn blame(number: usize) -> Blame {
     match number {
-        0 => Blame::NotAsked,
+        NO_BLAME => Blame::NotAsked,
         _ => Blame::Asked,
     }
 }
 
-/// A number that asks for blame, or does not.
-pub fn blame_number(blame: Blame) -> usize {
+fn blame_number(blame: Blame) -> usize {
     match blame {
-        Blame::NotAsked => 0,
-        Blame::Asked => 1,
+        Blame::NotAsked => NO_BLAME,
+        Blame::Asked => BLAME,
     }
 }
 

@@ -44,7 +44,9 @@ fn other_lines_are_not_part_of_a_call() {
     for file in ["", "\n", "solved\n", "term 1 0 0\n"] {
         assert!(Call::parse(file).is_err(), "{file:?}");
     }
-    let of_solve = ["counts 1 2 3", "more 1", "blame 18446744073709551615", "missing 0 0 0 0 1", "term 1 0 0", "proposition 11 0 -1 0", "question 0 0 0"];
+    let of_lent = ["counts 1 2 3", "more 1", "blame 18446744073709551615", "missing 0 0 0 0 1"];
+    let of_records = ["term 1 0 0", "proposition 11 0 -1 0", "question 0 0 0"];
+    let of_solve = [&of_lent[..], &of_records].concat();
     let of_read = ["room 1 2 3", "bytes 0aF0"];
     for (call, own, other) in [("solve", &of_solve[..], &of_read[..]), ("read", &of_read, &of_solve)] {
         for line in own.iter().chain(&["seed FFFFFFFFFFFFFFFF"]) {

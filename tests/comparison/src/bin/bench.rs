@@ -16,10 +16,6 @@ fn memory(set: &Set) -> Memory {
     Memory::new(set.cells(0), || r.next())
 }
 
-/// The numbers for blame.
-const NOT_ASKED: usize = 0;
-const ASKED: usize = 1;
-
 /// How many propositions are marked.
 fn blamed(memory: &Memory) -> usize {
     memory.marks.iter().filter(|&&mark| mark == 1).count()
@@ -58,7 +54,7 @@ fn family(name: &str, build: fn(&mut Numbers, usize) -> Set) {
         sets::questions(&mut r, &mut set, size);
         let (input, mut memory) = (set.input(), memory(&set));
         let theirs = fastest(|| tables::solve(&input, Blame::Asked, &mut memory.lent()));
-        let ours = fastest(|| proved::solve(&input, ASKED, &mut memory.lent()));
+        let ours = fastest(|| proved::solve(&input, proved::BLAME, &mut memory.lent()));
         let (whole, seconds, outcome) = beside(ours, theirs, last[0]);
         last[0] = Some(seconds);
         let (ours, theirs) = (fastest(|| proved::verdict(&input)), fastest(|| tables::verdict_only(&input)));
@@ -113,12 +109,12 @@ fn blame(name: &str, mut set: Set) {
         black_box(proved::verdict(black_box(&set.input())));
     };
     let without = &mut || {
-        black_box(proved::solve(black_box(&set.input()), NOT_ASKED, &mut memory.lent()));
+        black_box(proved::solve(black_box(&set.input()), proved::NO_BLAME, &mut memory.lent()));
     };
     let [one, without] = medians(1001, [alone, without]);
     assert_eq!(blamed(&memory), 0);
     let with = &mut || {
-        black_box(proved::solve(black_box(&set.input()), ASKED, &mut memory.lent()));
+        black_box(proved::solve(black_box(&set.input()), proved::BLAME, &mut memory.lent()));
     };
     let [whole] = medians(5, [with]);
     println!("{name:<13} {} terms {} propositions {} questions ({verdict:?}): one verdict {:.3} ms", set.n, set.m, set.q, one * 1e3);

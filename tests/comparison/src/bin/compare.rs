@@ -18,7 +18,7 @@ use std::ops::Range;
 use std::process::ExitCode;
 
 /// Numbers that ask for blame: the header's, and others.
-const ASKING: [usize; 8] = [1, 1, 2, 0xFF, 0x100, 1 << 32, 1 << 63, usize::MAX];
+const ASKING: [usize; 8] = [proved::BLAME, proved::BLAME, 2, 0xFF, 0x100, 1 << 32, 1 << 63, usize::MAX];
 
 /// The proved solver and the verdict alone; for full sets on the stack that the header states.
 fn solve_proved(input: &Input, blame: usize, lent: &mut Lent) -> [Outcome; 2] {
@@ -167,7 +167,7 @@ impl Run {
     /// the number of the refusal or 0.
     fn set(&mut self, r: &mut Numbers, name: &str, set: &Set, more: usize) -> usize {
         let asking = r.one_of(&ASKING);
-        self.call(&mut r.clone(), &format!("{name} set without blame"), set, more, 0);
+        self.call(&mut r.clone(), &format!("{name} set without blame"), set, more, proved::NO_BLAME);
         let outcome = self.call(r, &format!("{name} set"), set, more, asking);
         let number = match outcome {
             Outcome::Refused { number, .. } => usize::from(number),
