@@ -22,6 +22,8 @@ PAGE = Path("docs/PROMISES.md")
 LONGEST = 280
 # Names of the kit that the page mentions.
 KIT = {"os", "rattle_errno", "rattle_arg", "rattle_arg_count", "rattle_set_errno", "__xpg_strerror_r"}
+# Forms that the scope paper names and that no other crate has a use for (docs/DECISIONS.md, 47).
+FORMS = {"offsets": ["negated", "subtracted"]}
 PLACE = re.compile(r"\b([a-z_]+)/(src/\w+\.rt|[A-Z]\w+)\b")
 EDIT = re.compile(r"\b([a-z_]+)/([a-z0-9_]+)\b(?![./])")
 DECLARED = re.compile(r"\b(?:fn|struct|enum|const|type)\s+(\w+)")
@@ -139,7 +141,7 @@ class Check:
             head = "\n".join(re.match(r"((?://.*\n)*)", each)[1] for each in heads)
             for found in PUBLIC.finditer(text):
                 name = found[1]
-                if name in ENTRIES.get(crate, []):
+                if name in ENTRIES.get(crate, []) or name in FORMS.get(crate, []):
                     continue
                 above = re.search(r"((?://.*\n)*)$", text[: found.start()])[1]
                 said = set(re.findall(r"`(\w+)`", " ".join(re.findall(r"[Pp]ublic for[^.;]*", (above + head).replace("\n// ", " ")))))

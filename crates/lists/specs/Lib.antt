@@ -2,6 +2,7 @@
 pub mod Booleans
 pub mod Items
 pub mod Search
+pub mod Counting
 pub mod Collect
 pub mod Tabulate
 pub mod Lent

@@ -1,6 +1,6 @@
 // Offsets: summed, negated and compared in 64 bits, where no sum within the limits wraps.
 // Each function is exact on whole numbers. Public for the crates `tables`, `unionfind`, `lastlook`, `uselists`, `joins`, `consistency`,
-// `differences`, `questions`, `columns`, `refusals` and `writer`.
+// `placing`, `refusals` and `writer`.
 
 ghost use mathlib.Core.Path.{_≡_};
 ghost use lib.IntN.{ℤ, _+ℤ_, _-ℤ_, negℤ};
@@ -8,23 +8,8 @@ ghost use mir.Val.{SFits, toZ, ofZ};
 ghost use mir.Syntax.{w32, w64};
 ghost use Rattle.integers.specs.Compare.{eqℤ};
 
-// An offset of 32 bits, in 64.
-pub fn widened(z: i32) -> i64
-    ensures { λ r. ⌜ r ≡ z ⌝ }
-{
-    z as i64
-}
-
-// An offset that fits 32 bits, in 32.
-pub fn narrowed(wide: i64) -> i32
-    requires { ⌜ SFits w32 wide ⌝ }
-    ensures { λ r. ⌜ r ≡ wide ⌝ }
-{
-    wide as i32
-}
-
 // The offsets of the tables negated and subtracted, over the whole range of 32 bits (specs/Exact.antt: at the lowest number and around
-// zero).
+// zero): the form that the scope names for them. Places have no use for them: heights are not negative.
 pub fn negated(z: i32) -> i64
     ensures { λ r. ⌜ r ≡ negℤ z ⌝ }
 {

@@ -6,7 +6,7 @@ use mathlib.Core.Logic.{_↔_}
 use mathlib.Core.Bool.{Bool, true, false, not}
 use mathlib.Core.List.{List, [], _++_, map}
 use native.Mathlib.Omega.{arith}
-use lib.IntN.{ℤ, pos}
+use lib.IntN.{ℤ, pos, _+ℤ_, _-ℤ_}
 use lib.ListN.{length, getD, set, replicate, getD-replicate}
 use lib.Pow.{shr-le}
 use Rattle.lists.specs.Items.{Item, item-map}
@@ -25,7 +25,8 @@ use Rattle.closure.specs.Facts.{facts, lists}
 use Rattle.closure.specs.Join.{Label, placed, own, length-own, own-at, rep-at, off-at}
 use Rattle.closure.specs.Closure.{closure, length-closure}
 use Rattle.closure.specs.Verdict.{holds, holds-true, true-holds, contradictory, contradiction-exact, contradiction-no-assignment, verdict-satisfiable, closure-canonical}
-use Rattle.closure.specs.Differences.{different, different-exact}
+use Rattle.closure.specs.Differences.{different}
+use Rattle.closure.specs.Different.{different-exact}
 use Rattle.outcome.specs.Blame.{keptContradictory, blame}
 use Rattle.outcome.specs.BlameMinimal.{some-of, kept-exact, blame-contradictory, blame-less}
 use Rattle.outcome.specs.BlameOrder.{triedMarks, select-tried, blame-order}
@@ -221,19 +222,53 @@ module _ (ts : List Term) (ps : List Proposition) (qs : List Comparison) (wf : W
       pub different-assignments : given ≡ answerNumber answer.Different → (A : Placement) → Assignment ts (listed ts ps) A → Differs A (q .left) (q .offset) (q .right)
       different-assignments g A M = different-differs ts (listed ts ps) A M (answer-different .0 g)
 
+    -- "different" moves along equalities on both sides, however it was derived
+    pub different-closed :
+        (k : ℕ) (q : Comparison) → Item qs k q → q .left < length ts → q .right < length ts →
+        (j : ℕ) (r : Comparison) → Item qs j r → r .left < length ts → r .right < length ts →
+        (a b : ℤ) → Equal ts (listed ts ps) (r .left) a (q .left) → Equal ts (listed ts ps) (r .right) b (q .right) → r .offset ≡ q .offset +ℤ a -ℤ b →
+        getD (outcome ts ps qs .answers) k 0 ≡ answerNumber answer.Different → getD (outcome ts ps qs .answers) j 0 ≡ answerNumber answer.Different
+    different-closed k q i hl hr j r at jl jr a b e f o g = answer-different j r at jl jr .1 (rw o (Different.moved (answer-different k q i hl hr .0 g) e f))
+
     module _ (i j : ℕ) (hi : i < length ts) (hj : j < length ts) where
       abbrev bit : ℕ
       bit = bitOf (outcome ts ps qs .pairs) (i * length ts + j)
 
-      bit-is : bit ≡ bitValue (different ts (facts ts ps) P i (pos 0) j)
+      bit-at : (u v : ℕ) → u < length ts → v < length ts → bitOf (outcome ts ps qs .pairs) (u * length ts + v) ≡ bitValue (different ts (facts ts ps) P u (pos 0) v)
       unfolding satisfiable
-      bit-is = rw leaves (pair-bit (λ a b. different ts (facts ts ps) P a (pos 0) b) (length ts) i j hi hj)
+      bit-at u v hu hv = rw leaves (pair-bit (λ a b. different ts (facts ts ps) P a (pos 0) b) (length ts) u v hu hv)
+
+      bit-is : bit ≡ bitValue (different ts (facts ts ps) P i (pos 0) j)
+      bit-is = bit-at i j hi hj
 
       -- demand 2: a pair bit is 1 exactly where term i is different from 0 + term j
       pub pair-different : bit ≡ 1 ↔ Different ts (listed ts ps) i (pos 0) j
       pair-different =
           let d = different-exact ts (listed ts ps) wf (facts ts ps) (lists ts ps) P canonical hi hj in
           (λ e. d .0 (bit-true (different ts (facts ts ps) P i (pos 0) j) (sym bit-is ∙ e)), λ k. bit-is ∙ rw (d .1 k))
+
+      -- it depends only on the classes and the offsets of i and j
+      pub pair-places :
+          (u v : ℕ) →
+          u < length ts →
+          v < length ts →
+          representative u ≡ representative i →
+          offset u ≡ offset i →
+          representative v ≡ representative j →
+          offset v ≡ offset j →
+          bitOf (outcome ts ps qs .pairs) (u * length ts + v) ≡ bit
+      unfolding different
+      pair-places u v hu hv ru ou rv ov =
+          let a = labelled i hi in
+          let b = labelled j hj in
+          let c = labelled u hu in
+          let d = labelled v hv in
+          let blocks : P .block u ≡ P .block i = sym (c .0) ∙ ru ∙ a .0 in
+          let others : P .block v ≡ P .block j = sym (d .0) ∙ rv ∙ b .0 in
+          let at : P .position u ≡ P .position i = sym (c .1) ∙ ou ∙ a .1 in
+          let from : P .position v ≡ P .position j = sym (d .1) ∙ ov ∙ b .1 in
+          let same : different ts (facts ts ps) P u (pos 0) v ≡ different ts (facts ts ps) P i (pos 0) j = rw (blocks, others, at, from) in
+          bit-at u v hu hv ∙ ap bitValue same ∙ sym bit-is
 
       -- demand 3: a pair whose bit is 1 differs in every assignment
       pub pair-assignments : bit ≡ 1 → (A : Placement) → Assignment ts (listed ts ps) A → Differs A i (pos 0) j

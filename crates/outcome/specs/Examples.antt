@@ -12,12 +12,13 @@ use Rattle.integers.specs.Compare.{eqℤ}
 use Rattle.lists.specs.Items.{Item}
 use Rattle.lists.specs.Search.{find, any, findPair}
 use Rattle.lists.specs.Collect.{collect, cross}
+use Rattle.lists.specs.Counting.{count}
 use Rattle.lists.specs.Tabulate.{tabulate, select}
 use Rattle.closure.specs.Facts.{facts}
 use Rattle.closure.specs.Join.{placed, own, link, join, total}
 use Rattle.closure.specs.Closure.{derefs, sameAddress, unjoined, joinAll, close, rounds, closure}
 use Rattle.closure.specs.Verdict.{holds, together, clash, conflicting, contradictory}
-use Rattle.closure.specs.Differences.{classesOf, movedTo, otherOffset, apart, moved, differentBase, reads, differentIn, different}
+use Rattle.closure.specs.Differences.{classesAre, apart, otherOffset, between, unequal, differentAt, valuesDiffer, addressesDiffer, draws, draw, undrawn, twos, drawn, different}
 use Rattle.outcome.specs.Blame.{keptContradictory, dropBelow, blame}
 use Rattle.outcome.specs.PairBits.{number, pairBit, pairBits}
 use Rattle.outcome.specs.Outcome.{Outcome, outcome, satisfiable, contradiction, answer}
@@ -117,15 +118,15 @@ examples =
     (0 ∷ 1 ∷ 0 ∷ 3 ∷ 4 ∷ [])
     (pos 0 ∷ pos 0 ∷ pos 0 ∷ pos 0 ∷ pos 0 ∷ [])
     (0 ∷ 0 ∷ [])
-    (34 ∷ 0 ∷ 136 ∷ 0 ∷ [])
-    (2 ∷ 0 ∷ [])
+    (162 ∷ 8 ∷ 136 ∷ 0 ∷ [])
+    (2 ∷ 2 ∷ [])
     ∷ []
 
 -- each example leaves just what is listed for it
 pub examples-hold : map (λ e. outcome (e .terms) (e .propositions) (e .questions)) examples ≡ map (λ e. e .leaves) examples
 unfolding examples outcome satisfiable contradiction answer blame dropBelow keptContradictory pairBits pairBit number
-    contradictory conflicting holds together clash different differentIn differentBase reads moved apart otherOffset movedTo classesOf
-    closure close rounds joinAll unjoined sameAddress derefs join link placed own total facts eqℤ find any findPair collect cross tabulate select
+    contradictory conflicting holds together clash different drawn twos undrawn draw draws addressesDiffer valuesDiffer differentAt unequal between otherOffset apart classesAre
+    closure close rounds joinAll unjoined sameAddress derefs join link placed own total facts eqℤ find any findPair collect cross count tabulate select
 examples-hold = refl
 
 -- W9 answers "neither" for a against 0 + b, though they differ in every assignment

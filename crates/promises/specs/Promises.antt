@@ -135,6 +135,10 @@ module _ (b : Blame) (T : Tables) (M N : Memory) (r : Solved) (A : Answered b T 
     pair-different : (i j : ℕ) → i < length ts → j < length ts → bitOf (N .pairs) (i * length ts + j) ≡ 1 ↔ Different ts G i (pos 0) j
     pair-different = solver.pair-derived b T M N r A accepts sat
 
+    -- it depends only on the classes and the offsets of the two terms
+    pair-places : (i j : ℕ) → i < length ts → j < length ts → (u v : ℕ) → u < length ts → v < length ts → getD (N .representatives) u 0 ≡ getD (N .representatives) i 0 → getD (N .offsets) u (pos 0) ≡ getD (N .offsets) i (pos 0) → getD (N .representatives) v 0 ≡ getD (N .representatives) j 0 → getD (N .offsets) v (pos 0) ≡ getD (N .offsets) j (pos 0) → bitOf (N .pairs) (u * length ts + v) ≡ bitOf (N .pairs) (i * length ts + j)
+    pair-places = solver.pair-places b T M N r A accepts sat
+
     unused-bits-zero : (i : ℕ) → length ts * length ts ≤ i → i < 8 * pairBytes (length ts) → bitOf (N .pairs) i ≡ 0
     unused-bits-zero = solver.unused-zero b T M N r A accepts sat
 
@@ -147,6 +151,10 @@ module _ (b : Blame) (T : Tables) (M N : Memory) (r : Solved) (A : Answered b T 
 
       answer-neither : getD (N .answers) k 0 ≡ answerNumber Answer.Neither ↔ ((Equal ts G (q .left) (q .offset) (q .right) → ⊥) × (Different ts G (q .left) (q .offset) (q .right) → ⊥))
       answer-neither = solver.neither-derived b T M N r A accepts sat k q i
+
+    -- "different" moves along equalities on both sides, however it was derived
+    different-moves : (k : ℕ) (q : Comparison) → Item (questionsOf T) k q → (j : ℕ) (s : Comparison) → Item (questionsOf T) j s → (y z : ℤ) → Equal ts G (s .left) y (q .left) → Equal ts G (s .right) z (q .right) → s .offset ≡ q .offset +ℤ y -ℤ z → getD (N .answers) k 0 ≡ answerNumber Answer.Different → getD (N .answers) j 0 ≡ answerNumber Answer.Different
+    different-moves = solver.different-moves b T M N r A accepts sat
 
     -- demand 1: two terms of a class are at most 511 × 2,147,483,648 apart, which 64 bits hold
     largest-distance : {t1 t2 : ℕ} {z : ℤ} → t1 < length ts → t2 < length ts → Equal ts G t1 z t2 → Within ((most - 1) * offsetLimit) z

@@ -33,9 +33,10 @@ pub data Apart (ts : List Term) (G : Given) : ℕ → ℕ → Type 0 where
 
 -- t1 is different from z + t2
 pub data Different (ts : List Term) (G : Given) : ℕ → ℤ → ℕ → Type 0 where
-  listed-moved :
+  listed : {t1 t2 : ℕ} {z : ℤ} → G .unequal t1 z t2 → Different ts G t1 z t2
+  moved :
       {t1 t2 u v : ℕ} {z a b : ℤ} →
-      G .unequal t1 z t2 →
+      Different ts G t1 z t2 →
       Equal ts G u a t1 →
       Equal ts G v b t2 →
       Different ts G u (z +ℤ a -ℤ b) v

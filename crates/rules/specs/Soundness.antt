@@ -43,10 +43,11 @@ module _ (ts : List Term) (G : Given) (P : Placement) where
         apart-differs a (sym (equal-in e1 .same-block) ∙ same ∙ equal-in e2 .same-block)
 
     pub different-differs : {t1 t2 : ℕ} {z : ℤ} → Different ts G t1 z t2 → Differs P t1 z t2
-    different-differs (Different.listed-moved {t1 = t1} {t2 = t2} {u = u} {v = v} {z = z} {a = a} {b = b} g e1 e2) h =
+    different-differs (Different.listed g) h = A .unequal g h
+    different-differs (Different.moved {t1 = t1} {t2 = t2} {u = u} {v = v} {z = z} {a = a} {b = b} d e1 e2) h =
         let k1 = equal-in e1 in
         let k2 = equal-in e2 in
-        A .unequal g
+        different-differs d
         (record {
           same-block = sym (k1 .same-block) ∙ h .same-block ∙ k2 .same-block;
           at-offset = omega (linear, value (‹ z › ⊕ ‹ P .position t2 ›), value (‹ a › ⊕ ‹ P .position t1 ›), value (‹ b › ⊕ ‹ P .position t2 ›), value (‹ z › ⊕ ‹ a › ⊖ ‹ b › ⊕ ‹ P .position v ›), k1 .at-offset, k2 .at-offset);

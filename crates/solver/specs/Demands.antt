@@ -7,7 +7,7 @@ use mathlib.Core.List.{List}
 use mathlib.Core.Option.{Option, none, some}
 use native.Mathlib.Omega.{arith}
 use lib.Arith.{digits-lt}
-use lib.IntN.{ℤ, pos}
+use lib.IntN.{ℤ, pos, _+ℤ_, _-ℤ_}
 use lib.ListN.{length, getD, set, drop, getD-replicate}
 use Rattle.integers.specs.Within.{Within}
 use Rattle.lists.specs.Items.{Item, item-below}
@@ -277,6 +277,10 @@ module _ (b : Blame) (T : Tables) (M N : Memory) (r : Solved) (A : Answered b T 
       pub different-assignments : given ≡ answerNumber Answer.Different → (P : Placement) → Assignment ts (listed ts ps) P → Differs P (q .left) (q .offset) (q .right)
       different-assignments e = outcomes.different-assignments ts ps qs wf (satisfiable-verdict sat) k q i (sides .0) (sides .1) (sym given-is ∙ e)
 
+    -- "different" moves along equalities on both sides, however it was derived
+    pub different-moves : (k : ℕ) (q : Comparison) → Item qs k q → (j : ℕ) (s : Comparison) → Item qs j s → (y z : ℤ) → Equal ts (listed ts ps) (s .left) y (q .left) → Equal ts (listed ts ps) (s .right) z (q .right) → s .offset ≡ q .offset +ℤ y -ℤ z → getD (N .answers) k 0 ≡ answerNumber Answer.Different → getD (N .answers) j 0 ≡ answerNumber Answer.Different
+    different-moves k q i j s at y z e f o g = different-derived j s at .1 (rw o (Different.moved (different-derived k q i .0 g) e f))
+
     module _ (i j : ℕ) (hi : i < length ts) (hj : j < length ts) where
       abbrev bit : ℕ
       bit = bitOf (N .pairs) (i * length ts + j)
@@ -287,6 +291,17 @@ module _ (b : Blame) (T : Tables) (M N : Memory) (r : Solved) (A : Answered b T 
       -- demand 2: a pair bit is 1 exactly where term i is different from 0 + term j
       pub pair-derived : bit ≡ 1 ↔ Different ts (listed ts ps) i (pos 0) j
       pair-derived = rw pair-is (outcomes.pair-different ts ps qs wf (satisfiable-verdict sat) i j hi hj)
+
+      -- it depends only on the classes and the offsets of i and j
+      pub pair-places : (u v : ℕ) → u < length ts → v < length ts → representative u ≡ representative i → offset u ≡ offset i → representative v ≡ representative j → offset v ≡ offset j → bitOf (N .pairs) (u * length ts + v) ≡ bit
+      pair-places u v hu hv ru ou rv ov =
+          let a = label-is i hi in
+          let b = label-is j hj in
+          let c = label-is u hu in
+          let d = label-is v hv in
+          bit-is (u * length ts + v) (omega (arith, digits-lt hu hv))
+          ∙ outcomes.pair-places ts ps qs wf (satisfiable-verdict sat) i j hi hj u v hu hv (sym (c .0) ∙ ru ∙ a .0) (sym (c .1) ∙ ou ∙ a .1) (sym (d .0) ∙ rv ∙ b .0) (sym (d .1) ∙ ov ∙ b .1)
+          ∙ sym pair-is
 
       -- demand 3: a pair whose bit is 1 differs in every assignment
       pub pair-assignments : bit ≡ 1 → (P : Placement) → Assignment ts (listed ts ps) P → Differs P i (pos 0) j

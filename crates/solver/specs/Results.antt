@@ -21,7 +21,8 @@ use Rattle.closure.specs.Facts.{facts, lists}
 use Rattle.closure.specs.Join.{Label, unlabelled, placed, rep-at, off-at, own, own-at, length-own}
 use Rattle.closure.specs.Closure.{closure, length-closure}
 use Rattle.closure.specs.Verdict.{holds, holds-true, true-holds, contradictory, closure-canonical, canonical-computed}
-use Rattle.closure.specs.Differences.{different, different-exact}
+use Rattle.closure.specs.Differences.{different}
+use Rattle.closure.specs.Different.{different-exact}
 use Rattle.outcome.specs.PairBits.{pairBits, pairBytes}
 use Rattle.outcome.specs.Outcome.{Outcome, answer, satisfiable, contradiction, outcome, marksIf}
 use Rattle.outcome.specs.Lengths.{marks-of-zeros}
@@ -66,6 +67,7 @@ module _ (S : Set) (good : AcceptedSet S) where
         reps-count = cr;
         offs-count = co;
         canonical = record { sound = rw same at (L .state .sound); respects = (rw same at M) .respects; lowest = L .state .lowest };
+        assignment = rw same at M;
         near = λ t h. spread-near (good .few-terms) (rw count at (L .state .rooted)) (L .spread) .near h;
       }
 

@@ -5,12 +5,13 @@ use mathlib.Core.List.{List, [], _∷_}
 use Rattle.integers.specs.Compare.{eqℤ}
 use Rattle.lists.specs.Search.{find, any, findPair}
 use Rattle.lists.specs.Collect.{collect, cross}
+use Rattle.lists.specs.Counting.{count}
 use Rattle.lists.specs.Tabulate.{tabulate, select}
 use Rattle.closure.specs.Facts.{facts}
 use Rattle.closure.specs.Join.{placed, own, link, join, total}
 use Rattle.closure.specs.Closure.{derefs, sameAddress, unjoined, joinAll, close, rounds, closure}
 use Rattle.closure.specs.Verdict.{holds, together, clash, conflicting, contradictory}
-use Rattle.closure.specs.Differences.{classesOf, movedTo, otherOffset, apart, moved, differentBase, reads, differentIn, different}
+use Rattle.closure.specs.Differences.{classesAre, apart, otherOffset, between, unequal, differentAt, valuesDiffer, addressesDiffer, draws, draw, undrawn, twos, drawn, different}
 use Rattle.outcome.specs.PairBits.{number, pairBit, pairBits}
 use Rattle.outcome.specs.Outcome.{outcome, satisfiable, answer}
 use Rattle.tables.specs.Records.{offsetInRange, atomRecord, termOf, propositionOf, sameAtom}
@@ -69,6 +70,6 @@ unfolding input written output outcomeFrames labelFrames cellFrames solved readi
     linesOf digit bytesOf big signed unsigned digitOf hexOf bytes
     termNameFault propositionNameFault questionNameFault offsetInRange atomRecord termOf propositionOf sameAtom
     outcome satisfiable answer pairBits pairBit number
-    contradictory conflicting holds together clash different differentIn differentBase reads moved apart otherOffset movedTo classesOf
-    closure close rounds joinAll unjoined sameAddress derefs join link placed own total facts eqℤ find any findPair collect cross tabulate select
+    contradictory conflicting holds together clash different drawn twos undrawn draw draws addressesDiffer valuesDiffer differentAt unequal between otherOffset apart classesAre
+    closure close rounds joinAll unjoined sameAddress derefs join link placed own total facts eqℤ find any findPair collect cross count tabulate select
 whole-case = refl

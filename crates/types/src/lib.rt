@@ -133,7 +133,8 @@ pub struct PropositionNumber(pub usize);
 // A number in the table of questions.
 pub struct QuestionNumber(pub usize);
 
-// The number that a record names, as an index. Public for the crates `lastlook`, `joins`, `congruence`, `consistency` and `columns`.
+// The number that a record names, as an index. Public for the crates `lastlook`, `joins`, `congruence`,
+// `consistency`, `placing` and `columns`.
 pub fn index(number: u64) -> usize
     ensures { λ r. ⌜ r ≡ number ⌝ }
 {

@@ -1,6 +1,6 @@
 //! Random sets, whole and damaged, and full sets of several kinds.
 
-use second_solver::support::{Numbers, Set};
+use second_solver::support::{mixed, Numbers, Set};
 use std::collections::HashMap;
 
 fn kind_of_proposition(r: &mut Numbers) -> u64 {
@@ -334,6 +334,190 @@ pub fn tangle(r: &mut Numbers, size: usize) -> Set {
         }
     }
     propose(r, &mut set, size);
+    set
+}
+
+// Sets in which differences lead on: from what is read to addresses, and along equalities
+
+/// Two chains of dereferences with a disequality at their ends, from which the difference walks down to their starts. Each dereference
+/// is listed so many times.
+pub fn walked_chains(size: usize, times: usize) -> Set {
+    let mut set = Set::default();
+    let (mut a, mut b) = (set.term(2, 0, 0), set.term(2, 1, 0));
+    while set.n + 2 * times <= size {
+        let (inner_a, inner_b) = (a, b);
+        for _ in 0..times {
+            a = set.term(3, inner_a, 8);
+            b = set.term(3, inner_b, 8);
+        }
+    }
+    set.proposition(0x12, a, 0, b);
+    set
+}
+
+/// As `walked_chains`, each dereference reading from an atom that is equal to the one before it, so that the difference goes on from the
+/// atoms along equalities. It ends where the offsets of the two atoms are not the same, which they are not in one step of `broken`.
+pub fn chains_through_atoms(r: &mut Numbers, size: usize, broken: usize) -> Set {
+    let mut set = Set::default();
+    let (mut a, mut b) = (set.term(2, 0, 0), set.term(2, 1, 0));
+    while set.n + 4 <= size {
+        let (offset, other) = (4 * r.below(4) as i32, if r.one_in(broken) { 4 } else { 0 });
+        let (through_a, through_b) = (set.term(2, set.n, 0), set.term(2, set.n + 1, 0));
+        set.proposition(0x11, through_a, offset, a);
+        set.proposition(0x11, through_b, offset + other, b);
+        a = set.term(3, through_a, 8);
+        b = set.term(3, through_b, 8);
+    }
+    set.proposition(0x12, a, 0, b);
+    set
+}
+
+/// Two arrays, where what is read lies at regular offsets in the classes of the two: p_i = *(8 (i + 1) + p) = 8 i + p and q_j = *(8 j + q)
+/// = 8 j + q. Each distance between p and q leads to the one that is lower by 8.
+pub fn two_arrays(size: usize) -> Set {
+    let mut set = Set::default();
+    let (p, q) = (set.term(2, 0, 0), set.term(2, 1, 0));
+    let length = (size as i32 - 2) / 2;
+    for k in 0..length {
+        let (of_p, of_q) = (set.term(3, p, 8 * (k + 1)), set.term(3, q, 8 * k));
+        set.proposition(0x11, of_p, 8 * k, p);
+        set.proposition(0x11, of_q, 8 * k, q);
+    }
+    set.proposition(0x12, p, 8 * (length - 1), q);
+    set
+}
+
+/// Dereferences over one class at many offsets, with disequalities between what they read.
+pub fn one_class_read(r: &mut Numbers, size: usize) -> Set {
+    let mut set = Set::default();
+    let atoms = size / 4;
+    for k in 0..atoms {
+        set.term(2, k, 0);
+        if k > 0 {
+            set.proposition(0x11, k, 4 * k as i32, 0);
+        }
+    }
+    for k in atoms..size {
+        let inner = r.below(atoms);
+        set.term(3, inner, (8 * k) as i32 - (4 * inner) as i32);
+    }
+    while set.m < size {
+        let (left, right) = (atoms + r.below(size - atoms), atoms + r.below(size - atoms));
+        if left != right {
+            set.proposition(0x12, left, 0, right);
+        }
+    }
+    set
+}
+
+/// Few classes, each of one dereference that is listed again and again, and as many disequalities between them as terms.
+pub fn listed_again(r: &mut Numbers, size: usize, classes: usize) -> Set {
+    let mut set = Set::default();
+    for k in 0..classes {
+        set.term(2, k, 0);
+    }
+    for k in classes..size {
+        set.term(3, k % classes, 0);
+    }
+    while set.m < size {
+        let (left, right) = (classes + r.below(size - classes), classes + r.below(size - classes));
+        let offset = 4 * r.below(size) as i32 - 2 * size as i32;
+        if left % classes != right % classes {
+            set.proposition(0x12, left, offset, right);
+        }
+    }
+    set
+}
+
+/// Few classes of atoms at random offsets, with disequalities between them. The atoms are read. A quarter of the propositions or more are
+/// disequalities.
+pub fn few_classes(r: &mut Numbers, size: usize, classes: usize) -> Set {
+    let mut set = Set::default();
+    let atoms = size / 2;
+    for k in 0..atoms {
+        set.term(2, k, 0);
+        if k >= classes {
+            let offset = 4 * r.below(size) as i32;
+            set.proposition(0x11, k, offset, k % classes);
+        }
+    }
+    for k in atoms..size {
+        let offset = 4 * r.below(size) as i32;
+        set.term(3, k - atoms, offset);
+    }
+    while set.m < size {
+        let (left, right) = (r.below(atoms), r.below(atoms));
+        let offset = 4 * r.below(size) as i32 - 2 * size as i32;
+        if left % classes != right % classes {
+            set.proposition(0x12, left, offset, right);
+        }
+    }
+    set
+}
+
+/// Two classes of atoms at random offsets, each read, where all that is read lies in a third class, at offsets of its own: each two that
+/// are read tell a distance between the classes. With a wide `gap` between addresses few distances are the same.
+pub fn read_into_one_class(r: &mut Numbers, size: usize, gap: usize) -> Set {
+    let mut set = Set::default();
+    let atoms = size / 2;
+    let offsets: Vec<usize> = (0..atoms).map(|k| if k < 2 { 0 } else { r.below(size * gap) }).collect();
+    for (k, &offset) in offsets.iter().enumerate() {
+        set.term(2, k, 0);
+        if k >= 2 {
+            set.proposition(0x11, k, offset as i32, k % 2);
+        }
+    }
+    for (k, &offset) in offsets.iter().enumerate() {
+        let address = k * gap + r.below(gap);
+        let read = set.term(3, k, address as i32 - offset as i32);
+        if k > 0 {
+            set.proposition(0x11, read, k as i32, atoms);
+        }
+    }
+    set
+}
+
+/// A set of one of these families in turn, where differences meet again: few classes, few offsets.
+fn leading(r: &mut Numbers, k: usize, size: usize) -> Set {
+    let range = 1 + r.below(8.max(size / 8));
+    let disequalities = 1 + r.below(8);
+    match k % 6 {
+        0 => mixed(r, size, 2, range, disequalities),
+        1 => mixed(r, size, 3, range, disequalities),
+        2 => mixed(r, size, 2 + size / 32, range, 4 * disequalities),
+        3 => chains_through_atoms(r, size, 4 + size / 8),
+        4 => two_arrays(size),
+        _ => read_into_one_class(r, size, 1 + range / 4),
+    }
+}
+
+/// How many small and full sets are compared.
+pub const LEADING_SMALL: usize = 6_000;
+pub const LEADING_FULL: usize = 60;
+
+/// A small set in which differences lead on, with questions at small offsets. In one of 16 a last equality is added, which may be a
+/// contradiction.
+pub fn leading_small(r: &mut Numbers, k: usize) -> Set {
+    let size = 6 + r.below(20);
+    let mut set = leading(r, k, size);
+    if r.one_in(16) {
+        let (left, offset, right) = (r.below(set.n), r.below(4) as i32, r.below(set.n));
+        set.proposition(0x11, left, offset, right);
+    }
+    for _ in 0..24 {
+        let (left, offset, right) = (r.below(set.n), r.below(17) as i32 - 8, r.below(set.n));
+        set.question(left, offset, right);
+    }
+    set
+}
+
+/// A full set in which differences lead on.
+pub fn leading_full(r: &mut Numbers, k: usize) -> Set {
+    let mut set = leading(r, k, 512);
+    while set.q < 512 {
+        let (left, offset, right) = (r.below(set.n), r.below(2049) as i32 - 1024, r.below(set.n));
+        set.question(left, offset, right);
+    }
     set
 }
 

@@ -143,28 +143,62 @@ fn saturate_apart(terms: &[Term], propositions: &[Proposition], equal: &Equal) -
     }
 }
 
-/// The rules of "different" to a fixpoint, for every z of `universe`. The
-/// universe has 0 and with each z also −z; a premise is only ever read at 0 or
-/// at −z, so nothing outside the universe is missed.
+/// Which differences move along equalities.
+#[derive(Clone, Copy, Debug, PartialEq, Eq)]
+pub enum Moved {
+    /// All of them, as request R-3 asks.
+    All,
+    /// Listed disequalities alone, as before that request.
+    Listed,
+}
+
+/// The rules of "different" to a fixpoint, for each pair of terms and every z
+/// that is asked. The zs asked are closed under the rules that lead from a z to
+/// another, and inverse dereferencing reads its premise at 0, so nothing that
+/// is not asked is missed.
 struct Different {
-    n: usize,
-    universe: Vec<i64>,
-    holds: Vec<bool>,
+    asked: Vec<Vec<Vec<i64>>>,
+    holds: Vec<Vec<Vec<i64>>>,
 }
 
 impl Different {
-    fn at(&self, t1: usize, z: i64, t2: usize) -> Option<usize> {
-        let k = self.universe.binary_search(&z).ok()?;
-        Some((t1 * self.n + t2) * self.universe.len() + k)
-    }
     fn get(&self, t1: usize, z: i64, t2: usize) -> bool {
-        self.holds[self.at(t1, z, t2).expect("z is in the universe")]
+        assert!(self.asked[t1][t2].contains(&z));
+        self.holds[t1][t2].contains(&z)
     }
-    fn put(&mut self, t1: usize, z: i64, t2: usize) {
-        if let Some(k) = self.at(t1, z, t2) {
-            self.holds[k] = true;
+    fn put(&mut self, t1: usize, z: i64, t2: usize) -> bool {
+        self.asked[t1][t2].contains(&z) && add(&mut self.holds, t1, z, t2)
+    }
+}
+
+/// All (u, z + a − b, v) with u ≡ a + t1 and v ≡ b + t2.
+fn moved(equal: &Equal, t1: usize, z: i64, t2: usize) -> Vec<(usize, i64, usize)> {
+    let mut all = Vec::new();
+    for u in 0..equal.len() {
+        for v in 0..equal.len() {
+            for &a in &equal[u][t1] {
+                for &b in &equal[v][t2] {
+                    all.push((u, z + a - b, v));
+                }
+            }
         }
     }
+    all
+}
+
+/// 0 for each pair of terms, the questions, and what they come from.
+fn asked(equal: &Equal, questions: &[(usize, i64, usize)]) -> Vec<Vec<Vec<i64>>> {
+    let n = equal.len();
+    let mut asked = vec![vec![Vec::new(); n]; n];
+    let zeros = (0..n * n).map(|k| (k / n, 0, k % n));
+    let mut open: Vec<(usize, i64, usize)> = zeros.chain(questions.iter().copied()).collect();
+    while let Some((t1, z, t2)) = open.pop() {
+        if add(&mut asked, t1, z, t2) {
+            open.push((t2, -z, t1));
+            open.extend(moved(equal, t1, z, t2));
+        }
+    }
+    asked
 }
 
 fn saturate_different(
@@ -172,48 +206,37 @@ fn saturate_different(
     propositions: &[Proposition],
     equal: &Equal,
     apart: &[Vec<bool>],
-    zs: &[i64],
+    questions: &[(usize, i64, usize)],
+    which: Moved,
 ) -> Different {
     let n = terms.len();
-    let mut universe: Vec<i64> = vec![0];
-    for &z in zs {
-        universe.push(z);
-        universe.push(-z);
-    }
-    universe.sort_unstable();
-    universe.dedup();
     let mut different = Different {
-        n,
-        holds: vec![false; n * n * universe.len()],
-        universe,
+        asked: asked(equal, questions),
+        holds: vec![vec![Vec::new(); n]; n],
     };
-    let universe = different.universe.clone();
     loop {
         let before = different.holds.clone();
+        let mut grown = false;
         for p in propositions {
             if let Proposition::Disequality(t1, z, t2) = *p {
-                for u in 0..n {
-                    for v in 0..n {
-                        for &a in &equal[u][t1] {
-                            for &b in &equal[v][t2] {
-                                different.put(u, z + a - b, v);
-                            }
-                        }
-                    }
+                for (u, z, v) in moved(equal, t1, z, t2) {
+                    grown |= different.put(u, z, v);
                 }
             }
         }
         for t1 in 0..n {
             for t2 in 0..n {
-                for &z in &universe {
-                    if different.get(t1, z, t2) {
-                        different.put(t2, -z, t1);
+                for &z in &before[t1][t2] {
+                    grown |= different.put(t2, -z, t1);
+                    if which == Moved::All {
+                        for (u, z, v) in moved(equal, t1, z, t2) {
+                            grown |= different.put(u, z, v);
+                        }
                     }
-                    if equal[t1][t2].iter().any(|&y| y != z) {
-                        different.put(t1, z, t2);
-                    }
-                    if apart[t1][t2] {
-                        different.put(t1, z, t2);
+                }
+                for z in different.asked[t1][t2].clone() {
+                    if apart[t1][t2] || equal[t1][t2].iter().any(|&y| y != z) {
+                        grown |= different.put(t1, z, t2);
                     }
                 }
             }
@@ -223,13 +246,13 @@ fn saturate_different(
                 if let (Term::Dereference { z: z1, t: t1 }, Term::Dereference { z: z2, t: t2 }) =
                     (terms[d1], terms[d2])
                 {
-                    if different.get(d1, 0, d2) {
-                        different.put(t1, z2 - z1, t2);
+                    if before[d1][d2].contains(&0) {
+                        grown |= different.put(t1, z2 - z1, t2);
                     }
                 }
             }
         }
-        if different.holds == before {
+        if !grown {
             return different;
         }
     }
@@ -259,6 +282,16 @@ pub fn solve(
     propositions: &[Proposition],
     questions: &[(usize, i64, usize)],
 ) -> Result {
+    solve_moved(terms, propositions, questions, Moved::All)
+}
+
+/// The same with these differences moved.
+pub fn solve_moved(
+    terms: &[Term],
+    propositions: &[Proposition],
+    questions: &[(usize, i64, usize)],
+    which: Moved,
+) -> Result {
     let n = terms.len();
     if contradictory(terms, propositions) {
         let mut kept = vec![true; propositions.len()];
@@ -282,8 +315,7 @@ pub fn solve(
     }
     let equal = saturate_equal(terms, propositions);
     let apart = saturate_apart(terms, propositions, &equal);
-    let zs: Vec<i64> = questions.iter().map(|&(_, z, _)| z).collect();
-    let different = saturate_different(terms, propositions, &equal, &apart, &zs);
+    let different = saturate_different(terms, propositions, &equal, &apart, questions, which);
     let representatives: Vec<usize> = (0..n)
         .map(|t| (0..n).find(|&r| !equal[t][r].is_empty()).unwrap())
         .collect();

@@ -5,8 +5,9 @@ use crate::memory::needed;
 use crate::reader::Tables;
 use crate::tables::{
     Input, Proposition, Question, Term, AUXILIARY, BLOCK_DISEQUALITY, DEREFERENCE, DISEQUALITY,
-    EQUALITY, VARIABLE,
+    EQUALITY, LIMIT, VARIABLE,
 };
+use std::collections::HashMap;
 
 /// A generator of numbers (xorshift). It holds its seed, which is not 0.
 #[derive(Clone, Copy, Debug, PartialEq, Eq)]
@@ -166,6 +167,50 @@ impl Set {
         }
         cells
     }
+}
+
+/// What holds in a random model of few blocks, so that differences between
+/// what is read and differences between addresses lead to each other: each term
+/// has a block and a position below `range`, and most are tied to the first
+/// term of their block, so dereferences are among the members of few classes.
+/// Disequalities are between blocks. With few positions many distances are the
+/// same.
+pub fn mixed(
+    r: &mut Numbers,
+    size: usize,
+    blocks: usize,
+    range: usize,
+    disequalities: usize,
+) -> Set {
+    let mut set = Set::default();
+    let (mut values, mut memory) = (Vec::new(), HashMap::new());
+    for k in 0..size {
+        let any = (r.below(blocks), r.below(range) as i32);
+        values.push(if k < blocks {
+            set.term(AUXILIARY, k, 0);
+            (k, 0)
+        } else if r.one_in(4) {
+            set.term(AUXILIARY, k, 0);
+            any
+        } else {
+            let (inner, offset) = (r.below(k), r.below(range) as i32);
+            set.term(DEREFERENCE, inner, offset);
+            let (block, position): (usize, i32) = values[inner];
+            *memory.entry((block, position + offset)).or_insert(any)
+        });
+        let (block, position) = values[k];
+        if k >= blocks && !r.one_in(8) {
+            set.proposition(EQUALITY, k, position, block);
+        }
+    }
+    for _ in 0..disequalities {
+        let (left, right) = (r.below(size), r.below(size));
+        if values[left].0 != values[right].0 && set.m < LIMIT {
+            let offset = r.below(2 * range) as i32 - range as i32;
+            set.proposition(DISEQUALITY, left, offset, right);
+        }
+    }
+    set
 }
 
 /// Damages a text in one place, with one of the bytes or a line of its own;

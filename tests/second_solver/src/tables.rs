@@ -2,6 +2,7 @@
 
 use std::collections::HashMap;
 use std::hash::{BuildHasherDefault, Hasher};
+use std::ops::Range;
 
 /// Most records a table may have.
 pub const LIMIT: usize = 512;
@@ -133,15 +134,15 @@ pub fn solve(input: &Input, blame: Blame, lent: &mut Lent) -> Outcome {
         lent.representatives[..n].copy_from_slice(&classes.representative);
         lent.offsets[..n].copy_from_slice(&classes.offset);
         lent.marks[..m].fill(0);
-        let pairs = classes.pairs(input);
+        let differences = Differences::new(input, &classes);
         let bytes = &mut lent.pair_bits[..pair_bytes(n)];
-        bytes.fill(0);
-        for (bit, &set) in pairs.iter().enumerate() {
-            if set {
-                bytes[bit / 8] |= 1 << (bit % 8);
-            }
+        for (byte, pairs) in bytes.iter_mut().zip(differences.pairs.chunks(8)) {
+            *byte = pairs
+                .iter()
+                .rev()
+                .fold(0, |byte, &set| byte << 1 | set as u8);
         }
-        classes.answer(input, &pairs, &mut lent.answers[..q]);
+        differences.answer(input, &mut lent.answers[..q]);
         Outcome::Satisfiable
     } else {
         if blame == Blame::Asked {
@@ -267,7 +268,7 @@ fn check_records(input: &Input) -> Option<Outcome> {
 
 // Congruence closure
 
-/// A multiplicative hasher for the small integer keys of the closure.
+/// A multiplicative hasher for small integer keys.
 #[derive(Default)]
 struct KeyHasher(u64);
 
@@ -488,8 +489,7 @@ impl Closure {
 
 // What a satisfiable set leaves
 
-/// The classes of a satisfiable set, by lowest-numbered representatives, with
-/// what is known between classes.
+/// The classes of a satisfiable set, by lowest-numbered representatives.
 struct Classes {
     representative: Vec<u32>,
     /// t ≡ offset[t] + representative[t].
@@ -497,20 +497,7 @@ struct Classes {
     /// Number of the class of each term, from 0.
     class: Vec<usize>,
     count: usize,
-    /// Per ordered pair of classes: APART, LISTED, or both.
-    relation: Vec<u8>,
-    /// Listed disequalities between representatives, both ways round, sorted:
-    /// (pair of classes, z).
-    listed: Vec<(usize, i64)>,
-    /// Dereferences sorted by (term inside, z), and where each term's begin.
-    dereferences: Vec<(usize, i64, usize)>,
-    first_dereference: Vec<usize>,
 }
-
-/// The blocks of the two classes are apart.
-const APART: u8 = 1;
-/// There is a listed disequality between the two classes.
-const LISTED: u8 = 2;
 
 impl Classes {
     fn new(input: &Input, closure: &Closure) -> Classes {
@@ -533,148 +520,388 @@ impl Classes {
             offset.push(closure.offset[t] - closure.offset[low as usize]);
             class.push(number[root]);
         }
-
-        let mut relation = vec![0u8; count * count];
-        let mut listed = Vec::new();
-        let variables: Vec<usize> = (0..n)
-            .filter(|&t| input.terms[t].kind == VARIABLE)
-            .map(|t| class[t])
-            .collect();
-        for &c1 in &variables {
-            for &c2 in &variables {
-                if c1 != c2 {
-                    relation[c1 * count + c2] |= APART;
-                }
-            }
-        }
-        for record in &input.propositions[..input.m] {
-            let (t1, t2) = (record.left as usize, record.right as usize);
-            let forth = class[t1] * count + class[t2];
-            let back = class[t2] * count + class[t1];
-            match record.kind {
-                BLOCK_DISEQUALITY => {
-                    relation[forth] |= APART;
-                    relation[back] |= APART;
-                }
-                DISEQUALITY => {
-                    // The representatives r1, r2 satisfy r1 ≠ z + r2 with the
-                    // z below (the sign as the scope paper corrects it).
-                    let z = offset[t2] - offset[t1] + record.offset;
-                    relation[forth] |= LISTED;
-                    relation[back] |= LISTED;
-                    listed.push((forth, z));
-                    listed.push((back, -z));
-                }
-                _ => {}
-            }
-        }
-        listed.sort_unstable();
-
-        let mut dereferences: Vec<(usize, i64, usize)> = (0..n)
-            .filter_map(|d| dereference(input, d).map(|(inner, z)| (inner, z, d)))
-            .collect();
-        dereferences.sort_unstable();
-        let mut first_dereference = vec![0; n + 1];
-        for &(inner, _, _) in &dereferences {
-            first_dereference[inner + 1] += 1;
-        }
-        for t in 0..n {
-            first_dereference[t + 1] += first_dereference[t];
-        }
         Classes {
             representative,
             offset,
             class,
             count,
-            relation,
-            listed,
-            dereferences,
-            first_dereference,
         }
     }
 
-    /// Whether t1 is different from z + t2 without inverse dereferencing.
-    fn different_at_base(&self, t1: usize, z: i64, t2: usize) -> bool {
-        let (c1, c2) = (self.class[t1], self.class[t2]);
-        if c1 == c2 {
-            return self.offset[t1] - self.offset[t2] != z;
+    /// For each ordered pair of classes SAME, APART or 0.
+    fn between(&self, input: &Input) -> Vec<u16> {
+        let mut between = vec![0; self.count * self.count];
+        let variables: Vec<usize> = (0..input.n)
+            .filter(|&t| input.terms[t].kind == VARIABLE)
+            .map(|t| self.class[t])
+            .collect();
+        for &c1 in &variables {
+            for &c2 in &variables {
+                between[c1 * self.count + c2] = APART;
+            }
         }
-        let pair = c1 * self.count + c2;
-        let relation = self.relation[pair];
-        relation & APART != 0
-            || relation & LISTED != 0
-                && self
-                    .listed
-                    .binary_search(&(pair, self.offset[t2] - self.offset[t1] + z))
-                    .is_ok()
+        for record in &input.propositions[..input.m] {
+            if record.kind == BLOCK_DISEQUALITY {
+                let c1 = self.class[record.left as usize];
+                let c2 = self.class[record.right as usize];
+                between[c1 * self.count + c2] = APART;
+                between[c2 * self.count + c1] = APART;
+            }
+        }
+        for c in 0..self.count {
+            between[c * self.count + c] = SAME;
+        }
+        between
+    }
+}
+
+/// What is known of a pair of classes; a number from TABLED to below APART is
+/// TABLED + that of its table, and a lower one how many distances were learnt.
+const SAME: u16 = u16::MAX;
+const APART: u16 = u16::MAX - 1;
+const TABLED: u16 = 1 << 15;
+
+/// A search among the points of a class takes about so many steps.
+const SEARCH: usize = 8;
+
+/// The terms of one class at one offset, and what the dereferences among them
+/// read.
+struct Point {
+    offset: i64,
+    terms: Range<usize>,
+    reads: Range<usize>,
+}
+
+/// Some dereference reads `address` + the representative of `class`, and its
+/// value is at `point`, in class `value`. The fields are in the order in which
+/// reads are sorted.
+#[derive(Clone, PartialEq, Eq, PartialOrd, Ord)]
+struct Read {
+    point: usize,
+    value: usize,
+    class: usize,
+    address: i64,
+}
+
+/// All pairs of points of two classes by their distance: the first pair of each
+/// slot, and each with the next of its slot.
+struct Table {
+    first: Vec<u32>,
+    pairs: Vec<(u16, u16, u32)>,
+    shift: u32,
+}
+
+impl Table {
+    fn slot(&self, d: i64) -> usize {
+        ((d as u64).wrapping_mul(0x9e37_79b9_7f4a_7c15) >> self.shift) as usize
+    }
+}
+
+/// All differences. As they follow equalities, those between two classes are
+/// told by distances d, where the representatives r1 and r2 satisfy r1 ≠ d + r2:
+/// t1 is different from z + t2 if it is so for d = z + offset t2 − offset t1
+/// (the sign as the scope paper corrects it). Inside a class and between
+/// classes that are apart, none is learnt, since all that can be are known.
+struct Differences<'a> {
+    classes: &'a Classes,
+    /// At i × n + j: term i is different from 0 + term j.
+    pairs: Vec<bool>,
+    between: Vec<u16>,
+    /// Whether the distance is learnt, by pair of classes c1 × count + c2,
+    /// c1 < c2. Those of questions are here from the start, and all that are
+    /// learnt within the span of the points until the classes have a table.
+    distances: HashMap<(u32, i64), bool, BuildHasherDefault<KeyHasher>>,
+    tables: Vec<Table>,
+    /// The last distance that was learnt; often it is learnt again at once.
+    last: (usize, i64),
+    /// Pairs of points whose terms are different, but what follows for the
+    /// addresses that they read is not learnt yet.
+    pending: Vec<(usize, usize)>,
+    /// Terms by class and offset.
+    terms: Vec<usize>,
+    points: Vec<Point>,
+    /// The points of each class, by offset.
+    of_class: Vec<Range<usize>>,
+    reads: Vec<Read>,
+}
+
+impl Differences<'_> {
+    fn new<'a>(input: &Input, classes: &'a Classes) -> Differences<'a> {
+        let mut all = Differences {
+            classes,
+            pairs: Vec::with_capacity(input.n * input.n),
+            between: classes.between(input),
+            distances: HashMap::default(),
+            tables: Vec::new(),
+            last: (usize::MAX, 0),
+            pending: Vec::new(),
+            terms: (0..input.n).collect(),
+            points: Vec::new(),
+            of_class: Vec::with_capacity(classes.count),
+            reads: Vec::new(),
+        };
+        all.note_pairs(input.n);
+        all.note_points(input);
+        for record in &input.questions[..input.q] {
+            let (t1, t2) = (record.left as usize, record.right as usize);
+            if let Some(key) = all.key(t1, record.offset, t2) {
+                all.distances.insert(key, false);
+            }
+        }
+        for record in &input.propositions[..input.m] {
+            if record.kind == DISEQUALITY {
+                let (t1, t2) = (record.left as usize, record.right as usize);
+                let d = record.offset + classes.offset[t2] - classes.offset[t1];
+                all.learn(classes.class[t1], classes.class[t2], d);
+            }
+        }
+        all.learn_from_classes();
+        while let Some((p1, p2)) = all.pending.pop() {
+            for k in all.points[p1].reads.clone() {
+                for l in all.points[p2].reads.clone() {
+                    let (x, y) = (&all.reads[k], &all.reads[l]);
+                    all.learn(x.class, y.class, y.address - x.address);
+                }
+            }
+        }
+        all
     }
 
-    /// For each pair (i, j), at i × n + j, whether term i is different from
-    /// 0 + term j. The dereferences of a pair of terms have higher numbers, so
-    /// one pass from the highest numbers down settles each pair before it is
-    /// used: a pair whose higher number is i adds only to pairs with numbers
-    /// below i.
-    fn pairs(&self, input: &Input) -> Vec<bool> {
-        let n = input.n;
-        let mut different = vec![false; n * n];
-        for i in (0..n).rev() {
-            let outer = dereference(input, i);
-            for j in (0..i).rev() {
-                if !different[i * n + j] && !self.different_at_base(i, 0, j) {
+    /// The pairs of terms that are different by their classes alone.
+    fn note_pairs(&mut self, n: usize) {
+        let Classes {
+            class,
+            offset,
+            count,
+            ..
+        } = self.classes;
+        for i in 0..n {
+            let row = &self.between[class[i] * count..][..*count];
+            self.pairs.extend((0..n).map(|j| match row[class[j]] {
+                SAME => offset[i] != offset[j],
+                between => between == APART,
+            }));
+        }
+    }
+
+    fn note_points(&mut self, input: &Input) {
+        let Classes { class, offset, .. } = self.classes;
+        self.terms.sort_unstable_by_key(|&t| (class[t], offset[t]));
+        for (k, &t) in self.terms.iter().enumerate() {
+            if self.of_class.len() == class[t] {
+                self.of_class.push(self.points.len()..self.points.len());
+            }
+            let points = &mut self.of_class[class[t]];
+            if points.start == points.end || self.points[points.end - 1].offset != offset[t] {
+                points.end += 1;
+                self.points.push(Point {
+                    offset: offset[t],
+                    terms: k..k,
+                    reads: 0..0,
+                });
+            }
+            let point = self.points.len() - 1;
+            self.points[point].terms.end = k + 1;
+            if let Some((inner, z)) = dereference(input, t) {
+                self.reads.push(Read {
+                    point,
+                    value: class[t],
+                    class: class[inner],
+                    address: z + offset[inner],
+                });
+            }
+        }
+        self.reads.sort_unstable();
+        self.reads.dedup();
+        let mut start = 0;
+        for (point, of_point) in self.points.iter_mut().enumerate() {
+            let reads = self.reads[start..].iter();
+            let end = start + reads.take_while(|read| read.point == point).count();
+            of_point.reads = start..end;
+            start = end;
+        }
+    }
+
+    /// What two reads tell whose values are different by their classes alone.
+    fn learn_from_classes(&mut self) {
+        let count = self.classes.count;
+        let mut by_class = self.reads.clone();
+        by_class.sort_by_key(|read| read.class);
+        let of_class: Vec<&[Read]> = by_class.chunk_by(|x, y| x.class == y.class).collect();
+        for (k, reads1) in of_class.iter().enumerate() {
+            for reads2 in &of_class[k + 1..] {
+                if self.between[reads1[0].class * count + reads2[0].class] == APART {
                     continue;
                 }
-                different[i * n + j] = true;
-                different[j * n + i] = true;
-                if let (Some((t1, z1)), Some((t2, z2))) = (outer, dereference(input, j)) {
-                    if z1 == z2 {
-                        different[t1 * n + t2] = true;
-                        different[t2 * n + t1] = true;
+                for x in *reads1 {
+                    for y in *reads2 {
+                        let different = match self.between[x.value * count + y.value] {
+                            SAME => x.point != y.point,
+                            between => between == APART,
+                        };
+                        if different {
+                            self.learn(x.class, y.class, y.address - x.address);
+                        }
                     }
                 }
             }
         }
-        different
     }
 
-    /// Dereferences over t, sorted by z.
-    fn over(&self, t: usize) -> &[(usize, i64, usize)] {
-        &self.dereferences[self.first_dereference[t]..self.first_dereference[t + 1]]
-    }
-
-    /// Whether inverse dereferencing gives t1 different from z + t2: there are
-    /// dereferences *(z1 + t1) and *(z2 + t2) with z = z2 − z1 that are
-    /// different at 0.
-    fn different_by_inverse(&self, n: usize, pairs: &[bool], t1: usize, z: i64, t2: usize) -> bool {
-        let right = self.over(t2);
-        let mut start = 0;
-        for &(_, z1, d1) in self.over(t1) {
-            while start < right.len() && right[start].1 < z1 + z {
-                start += 1;
+    /// r1 ≠ d + r2 for the representatives of the two classes.
+    fn learn(&mut self, c1: usize, c2: usize, d: i64) {
+        if c1 > c2 {
+            return self.learn(c2, c1, -d);
+        }
+        let pair = c1 * self.classes.count + c2;
+        if self.last == (pair, d) || self.between[pair] >= APART {
+            return;
+        }
+        self.last = (pair, d);
+        let first = |c: usize| self.points[self.of_class[c].start].offset;
+        let last = |c: usize| self.points[self.of_class[c].end - 1].offset;
+        let in_span = first(c2) - last(c1) <= d && d <= last(c2) - first(c1);
+        let key = (pair as u32, d);
+        if self.between[pair] < TABLED && in_span {
+            if !std::mem::replace(self.distances.entry(key).or_insert(false), true) {
+                self.follow(c1, c2, d);
             }
-            for &(_, z2, d2) in &right[start..] {
-                if z2 != z1 + z {
-                    break;
+        } else {
+            if let Some(learnt) = self.distances.get_mut(&key) {
+                *learnt = true;
+            }
+            if in_span {
+                self.follow_in_table(usize::from(self.between[pair] - TABLED), d);
+            }
+        }
+    }
+
+    /// Moves r1 ≠ d + r2 to the terms of the two classes.
+    fn follow(&mut self, c1: usize, c2: usize, d: i64) {
+        let (points1, points2) = (self.of_class[c1].clone(), self.of_class[c2].clone());
+        let (m1, m2) = (points1.len(), points2.len());
+        let steps = (SEARCH * m1.min(m2)).min(m1 + m2);
+        if SEARCH * m1 < m2 {
+            for p1 in points1 {
+                if let Some(p2) = self.point(c2, self.points[p1].offset + d) {
+                    self.tell(p1, p2);
                 }
-                if pairs[d1 * n + d2] {
-                    return true;
+            }
+        } else if SEARCH * m2 < m1 {
+            for p2 in points2 {
+                if let Some(p1) = self.point(c1, self.points[p2].offset - d) {
+                    self.tell(p1, p2);
+                }
+            }
+        } else {
+            let mut p2 = points2.start;
+            for p1 in points1 {
+                let offset = self.points[p1].offset + d;
+                while p2 < points2.end && self.points[p2].offset < offset {
+                    p2 += 1;
+                }
+                if p2 < points2.end && self.points[p2].offset == offset {
+                    self.tell(p1, p2);
                 }
             }
         }
-        false
+        // A table takes about 4 steps for each pair of points; it is made once
+        // as many have been taken without it.
+        let between = &mut self.between[c1 * self.classes.count + c2];
+        *between = (*between + 1).min(TABLED - 1);
+        let room = self.tables.len() < usize::from(APART - TABLED);
+        if usize::from(*between) * steps > 4 * m1 * m2 && room {
+            *between = TABLED + self.tables.len() as u16;
+            self.tabulate(c1, c2);
+        }
     }
 
-    fn answer(&self, input: &Input, pairs: &[bool], answers: &mut [u8]) {
+    fn point(&self, c: usize, offset: i64) -> Option<usize> {
+        let range = self.of_class[c].clone();
+        let found = self.points[range.clone()].binary_search_by_key(&offset, |p| p.offset);
+        found.ok().map(|k| range.start + k)
+    }
+
+    fn distance(&self, p1: usize, p2: usize) -> i64 {
+        self.points[p2].offset - self.points[p1].offset
+    }
+
+    fn tabulate(&mut self, c1: usize, c2: usize) {
+        let (points1, points2) = (self.of_class[c1].clone(), self.of_class[c2].clone());
+        let bits = (2 * points1.len() * points2.len()).ilog2();
+        let mut table = Table {
+            first: vec![NONE; 1 << bits],
+            pairs: Vec::with_capacity(points1.len() * points2.len()),
+            shift: 64 - bits,
+        };
+        for p1 in points1 {
+            for p2 in points2.clone() {
+                let slot = table.slot(self.distance(p1, p2));
+                let next = std::mem::replace(&mut table.first[slot], table.pairs.len() as u32);
+                table.pairs.push((p1 as u16, p2 as u16, next));
+            }
+        }
+        self.tables.push(table);
+    }
+
+    fn follow_in_table(&mut self, table: usize, d: i64) {
+        let mut k = self.tables[table].first[self.tables[table].slot(d)];
+        while k != NONE {
+            let (p1, p2, next) = self.tables[table].pairs[k as usize];
+            let (p1, p2) = (p1.into(), p2.into());
+            // Pairs at one distance are told together.
+            if self.distance(p1, p2) == d && !self.tell(p1, p2) {
+                return;
+            }
+            k = next;
+        }
+    }
+
+    /// Terms at the two points are different; false if that was known.
+    fn tell(&mut self, p1: usize, p2: usize) -> bool {
+        let n = self.terms.len();
+        let (of_p1, of_p2) = (&self.points[p1], &self.points[p2]);
+        if self.pairs[self.terms[of_p1.terms.start] * n + self.terms[of_p2.terms.start]] {
+            return false;
+        }
+        for &t1 in &self.terms[of_p1.terms.clone()] {
+            for &t2 in &self.terms[of_p2.terms.clone()] {
+                self.pairs[t1 * n + t2] = true;
+                self.pairs[t2 * n + t1] = true;
+            }
+        }
+        if of_p1.reads.start < of_p1.reads.end && of_p2.reads.start < of_p2.reads.end {
+            self.pending.push((p1, p2));
+        }
+        true
+    }
+
+    /// Where t1 against z + t2 stands in `distances`; none inside a class and
+    /// between classes that are apart.
+    fn key(&self, t1: usize, z: i64, t2: usize) -> Option<(u32, i64)> {
+        let Classes {
+            class,
+            offset,
+            count,
+            ..
+        } = self.classes;
+        let (c1, c2) = (class[t1], class[t2]);
+        let d = z + offset[t2] - offset[t1];
+        match self.between[c1 * count + c2] {
+            SAME | APART => None,
+            _ if c1 < c2 => Some(((c1 * count + c2) as u32, d)),
+            _ => Some(((c2 * count + c1) as u32, -d)),
+        }
+    }
+
+    fn answer(&self, input: &Input, answers: &mut [u8]) {
+        let Classes { class, offset, .. } = self.classes;
         for (record, answer) in input.questions.iter().zip(answers) {
             let (t1, z, t2) = (record.left as usize, record.offset, record.right as usize);
-            *answer = if self.class[t1] == self.class[t2] && self.offset[t1] - self.offset[t2] == z
-            {
-                EQUAL
-            } else if self.different_at_base(t1, z, t2)
-                || self.different_by_inverse(input.n, pairs, t1, z, t2)
-            {
-                DIFFERENT
-            } else {
-                NEITHER
+            *answer = match self.key(t1, z, t2) {
+                None if class[t1] == class[t2] && offset[t1] - offset[t2] == z => EQUAL,
+                Some(key) if !self.distances[&key] => NEITHER,
+                _ => DIFFERENT,
             };
         }
     }

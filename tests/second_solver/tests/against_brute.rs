@@ -1,13 +1,14 @@
 //! Compares module `tables` with the naive reference on random small sets.
 
-use second_solver::brute::{self, Proposition, Term};
+use second_solver::brute::{self, Moved, Proposition, Term};
 use second_solver::memory::Memory;
 use second_solver::program::Run;
-use second_solver::support::{Numbers, Set};
+use second_solver::support::{mixed, Numbers, Set};
 use second_solver::tables::{
     self, solve, verdict_only, Blame, Outcome, Question, AUXILIARY, BLOCK_DISEQUALITY, DEREFERENCE,
-    DISEQUALITY, EQUALITY, VARIABLE,
+    DISEQUALITY, EQUALITY, LIMIT, VARIABLE,
 };
+use std::collections::HashSet;
 
 /// How a random set is drawn.
 #[derive(Clone, Copy)]
@@ -49,16 +50,22 @@ fn draw(r: &mut Numbers, style: &Style) -> Set {
             set.proposition(DISEQUALITY, t1, z, t2);
         }
     }
-    // Every ordered pair at 0 and at some other offsets.
-    for t1 in 0..n {
-        for t2 in 0..n {
-            let (z1, z2) = (r.one_of(style.offsets), r.one_of(style.offsets));
+    ask(r, &mut set, style.offsets);
+    set
+}
+
+/// Every ordered pair at 0 and at some other offsets.
+fn ask(r: &mut Numbers, set: &mut Set, offsets: &[i32]) {
+    for t1 in 0..set.n {
+        for t2 in 0..set.n {
+            let (z1, z2) = (r.one_of(offsets), r.one_of(offsets));
             for z in [0, z1, z1.saturating_sub(z2)] {
-                set.question(t1, z, t2);
+                if set.q < LIMIT {
+                    set.question(t1, z, t2);
+                }
             }
         }
     }
-    set
 }
 
 /// A set as the reference takes it.
@@ -137,6 +144,9 @@ struct Seen {
     /// Joins that no single listed equality names.
     joins: usize,
     dropped: usize,
+    /// Sets with a pair of terms that would not be different if listed
+    /// disequalities alone moved along equalities.
+    moved: usize,
 }
 
 fn compare(set: &Set, seen: &mut Seen) {
@@ -171,6 +181,9 @@ fn compare(set: &Set, seen: &mut Seen) {
     } else {
         seen.satisfiable += 1;
         seen.joins += (0..set.n).filter(|&t| representatives[t] != t).count();
+        let listed = brute::solve_moved(&terms, &propositions, &questions, Moved::Listed);
+        let more = |(&is, &was): (&bool, &bool)| is && !was;
+        seen.moved += usize::from(want.pairs.iter().zip(&listed.pairs).any(more));
         let (blocks, positions) = (&representatives, &memory.offsets);
         let assigned = brute::is_assignment(&terms, &propositions, blocks, positions);
         assert!(assigned, "\n{}", about());
@@ -279,6 +292,106 @@ fn larger_sets() {
             ..SMALL
         },
     );
+}
+
+/// Sets in which differences lead from values to addresses, along equalities to
+/// other terms of the classes, and from values among those on to addresses. In
+/// some a last equality is added, between any two terms.
+fn run_mixed(seed: u64, count: usize, most_terms: usize, most_disequalities: usize) -> Seen {
+    let mut r = Numbers(seed);
+    let mut seen = Seen::default();
+    for k in 0..count {
+        let size = 4 + r.below(most_terms - 3);
+        let (blocks, range) = (2 + r.below(2), 1 + r.below(5));
+        let disequalities = r.below(most_disequalities + 1);
+        let mut set = mixed(&mut r, size, blocks, range, disequalities);
+        if k % 4 == 0 {
+            let (t1, z, t2) = (r.below(size), r.below(range), r.below(size));
+            set.proposition(EQUALITY, t1, z as i32, t2);
+        }
+        ask(&mut r, &mut set, &[-3, -2, -1, 0, 1, 2, 3]);
+        compare(&set, &mut seen);
+    }
+    assert!(seen.satisfiable > count / 2);
+    assert!(seen.contradictory > count / 20);
+    assert!(seen.moved > count / 10, "{} of {count}", seen.moved);
+    seen
+}
+
+#[test]
+fn differences_lead_to_each_other() {
+    run_mixed(8, 4_000, 9, 4);
+}
+
+/// Here there are more distances between two classes than offsets in them.
+#[test]
+fn many_differences_between_few_classes() {
+    run_mixed(9, 400, 14, 40);
+}
+
+/// The differences of a larger set, from the labels that are left for it: whole
+/// rounds over all pairs of dereferences, until one adds nothing. Sets have no
+/// variables and no block disequalities.
+fn by_rounds(set: &Set, memory: &Memory) -> impl Fn(usize, i64, usize) -> bool {
+    let (root, offset) = (memory.representatives.clone(), memory.offsets.clone());
+    let between =
+        move |t1: usize, z: i64, t2: usize| (root[t1], z + offset[t2] - offset[t1], root[t2]);
+    let mut known = HashSet::new();
+    let is = move |known: &HashSet<(u32, i64, u32)>, (r1, d, r2): (u32, i64, u32)| {
+        r1 == r2 && d != 0 || known.contains(&(r1, d, r2))
+    };
+    for p in &set.tables.propositions {
+        if p.kind == DISEQUALITY {
+            let (t1, t2) = (p.left as usize, p.right as usize);
+            known.insert(between(t1, p.offset, t2));
+            known.insert(between(t2, -p.offset, t1));
+        }
+    }
+    let terms = set.tables.terms.iter().enumerate();
+    let reads: Vec<_> = terms.filter(|(_, t)| t.kind == DEREFERENCE).collect();
+    loop {
+        let before = known.len();
+        for (d1, x) in &reads {
+            for (d2, y) in &reads {
+                if is(&known, between(*d1, 0, *d2)) {
+                    let (t1, t2) = (x.number as usize, y.number as usize);
+                    known.insert(between(t1, y.offset - x.offset, t2));
+                }
+            }
+        }
+        if known.len() == before {
+            return move |t1, z, t2| is(&known, between(t1, z, t2));
+        }
+    }
+}
+
+#[test]
+fn larger_sets_by_rounds() {
+    let mut r = Numbers(10);
+    let mut answers = [0; 3];
+    for k in 0..300 {
+        let size = r.one_of(&[20, 40, 80, 160]);
+        let (blocks, range) = (2 + r.below(4), r.one_of(&[2, 8, 64, 1024]));
+        let disequalities = r.one_of(&[1, 4, 40, 300]);
+        let mut set = mixed(&mut r, size, blocks, range, disequalities);
+        for _ in 0..LIMIT {
+            let (t1, z, t2) = (r.below(size), r.below(range) as i32, r.below(size));
+            set.question(t1, if r.one_in(2) { z } else { -z }, t2);
+        }
+        let Run { outcome, memory } = solve_set(&set);
+        assert_eq!(outcome, Outcome::Satisfiable);
+        let different = by_rounds(&set, &memory);
+        for bit in 0..size * size {
+            let given = memory.pair_bits[bit / 8] >> (bit % 8) & 1 == 1;
+            assert_eq!(given, different(bit / size, 0, bit % size), "{k}: {bit}");
+        }
+        for (q, &answer) in set.tables.questions.iter().zip(&memory.answers) {
+            let is = different(q.left as usize, q.offset, q.right as usize);
+            assert_eq!(answer == 2, is, "{k}: {q:?}");
+            answers[answer as usize] += 1;
+        }
+    }
+    assert!(answers.iter().all(|&count| count > 1_000), "{answers:?}");
 }
 
 /// Searches all assignments with few blocks and positions: a contradictory set

@@ -1,57 +1,67 @@
 -- `columns::tell_differences` meets its contract.
+use Prim.Native.Nat.{ℕ}
 use mathlib.Core.Path.{refl, sym, _∙_}
 use native.Mathlib.Omega.{arith}
-use lib.Seq.{length-take-le}
-use Rattle.columns.specs.Held.{fronts}
+use denote.Ref.{now}
 use borrow.Author.Needs.{needs}
+use lib.ListN.{length, length-replicate}
+use Rattle.tables.specs.Limits.{square-small}
+use Rattle.tables.specs.Rows.{Row}
+use Rattle.tables.specs.Sets.{setOf}
+use Rattle.placing.specs.Placed.{Labelled, labelled-few, labelled-offsets, labelled-terms, labelled-sides, labelled-classes}
+use Rattle.columns.specs.Answered.{labelled, as-many}
 use Rattle.columns.proofs.tell_differences.Statement.{statement}
 use Rattle.columns.proofs.tell_differences.Tie as tie
 
-slice-aggregate-copy-labels : tie.Need-slice-aggregate-copy-labels
-slice-aggregate-copy-labels c = search needs
+fill-heights-requires : tie.Need-fill-heights-requires
+fill-heights-requires c κs = let s = c .before .before .before .before in
+    let l = labelled (now (s .args .terms)) (now (s .args .propositions)) (now (s .args .reps)) (now (s .args .offs)) (s .pre .0) in
+    (labelled-few l, (labelled-offsets l, refl))
 
-slice-aggregate-copy-labels-2 : tie.Need-slice-aggregate-copy-labels-2
-slice-aggregate-copy-labels-2 c = search needs
+fill-reads-requires : tie.Need-fill-reads-requires
+fill-reads-requires c κs = let s = c .before .before .before .before .before .before .before .before in
+    let l = labelled (now (s .args .terms)) (now (s .args .propositions)) (now (s .args .reps)) (now (s .args .offs)) (s .pre .0) in
+    (labelled-terms l, (refl, refl))
 
-copy-labels-requires : tie.Need-copy-labels-requires
-copy-labels-requires c κs = let L = (c .before .before .before .before .before) .pre .0 in ((L .offs-count ∙ sym (L .reps-count), rw (L .reps-count) (L .accepted .few-terms)), (refl, refl))
+fill-sides-requires : tie.Need-fill-sides-requires
+fill-sides-requires c κs = let s = c .before .before .before .before .before .before .before .before .before .before .before .before .before .before .before in
+    let l = labelled (now (s .args .terms)) (now (s .args .propositions)) (now (s .args .reps)) (now (s .args .offs)) (s .pre .0) in
+    (labelled-sides l, (refl, (refl, (refl, refl))))
 
-array-share-prefix-own-reps : tie.Need-array-share-prefix-own-reps
-array-share-prefix-own-reps c = search needs
+apart-classes-requires : tie.Need-apart-classes-requires
+apart-classes-requires c κs = let s = c .before .before .before .before .before .before .before .before .before .before .before .before .before .before .before .before .before .before .before .before .before in
+    let l = labelled (now (s .args .terms)) (now (s .args .propositions)) (now (s .args .reps)) (now (s .args .offs)) (s .pre .0) in
+    (labelled-classes l, omega (arith, square-small (length (now (s .args .terms))) (s .pre .0 .accepted .few-terms)))
 
-slice-aggregate-tell-by-columns : tie.Need-slice-aggregate-tell-by-columns
-slice-aggregate-tell-by-columns c = sym (length-take-le _ _ (omega (arith, (c .before .before .before .copy-labels) .ensures .reps-long, (c .before .before .before .before .before .before .before .before .before) .pre .0 .accepted .few-terms)))
-
-array-share-prefix-own-offs : tie.Need-array-share-prefix-own-offs
-array-share-prefix-own-offs c = search needs
-
-slice-aggregate-tell-by-columns-2 : tie.Need-slice-aggregate-tell-by-columns-2
-slice-aggregate-tell-by-columns-2 c = sym (length-take-le _ _ (omega (arith, (c .before .before .before .before .copy-labels) .ensures .offs-long, (c .before .before .before .before .before .before .before .before .before .before) .pre .0 .accepted .few-terms)))
-
-tell-by-columns-requires : tie.Need-tell-by-columns-requires
-tell-by-columns-requires c κs = let K = fronts ((c .before .before .before .before .before .before .before .before .before .before .before .before) .pre .0) ((c .before .before .before .before .before .before .copy-labels) .ensures) in (rw (K .0, K .1) ((c .before .before .before .before .before .before .before .before .before .before .before .before) .pre .0), (c .before .before .before .before .before .before .before .before .before .before .before .before) .pre .1)
-
-same-length : tie.Need-same-length
-same-length c = search needs
-
-same-length-2 : tie.Need-same-length-2
-same-length-2 c = search needs
-
-returns : tie.Need-returns
-returns c = let K = fronts ((c .before .before .before .before .before .before .before .before .before .before .before .before .before .before .before .before .before) .pre .0) ((c .before .before .before .before .before .before .before .before .before .before .before .copy-labels) .ensures) in rw (K .0, K .1) at ((c .before .before .before .before .tell-by-columns) .ensures)
+tell-places-requires : tie.Need-tell-places-requires
+tell-places-requires c κs = let s = c .before .before .before .before .before .before .before .before .before .before .before .before .before .before .before .before .before .before .before .before .before .before .before .before .before .before .before .before .before .before .before .before .before in
+    (s .pre .0, (record { terms = as-many (s .pre .0 .offs-count) (c .before .before .before .before .before .before .before .before .before .before .before .before .before .before .before .before .before .before .before .before .before .before .before .before .before .before .before .before .fill-heights .ensures); reading = c .before .before .before .before .before .before .before .before .before .before .before .before .before .before .before .before .before .before .before .before .before .before .before .before .fill-reads .ensures; sides = c .before .before .before .before .before .before .before .before .before .before .before .before .before .before .before .before .before .fill-sides .ensures; apart-classes = c .before .before .before .before .before .before .before .before .before .before .before .apart-classes .ensures }, s .pre .1))
 
 pub tell-differences-spec : {M : Type 1} → statement M
 tell-differences-spec =
     tie.close
     (tie.spec
-    slice-aggregate-copy-labels
-    slice-aggregate-copy-labels-2
-    copy-labels-requires
-    array-share-prefix-own-reps
-    slice-aggregate-tell-by-columns
-    array-share-prefix-own-offs
-    slice-aggregate-tell-by-columns-2
-    tell-by-columns-requires
-    same-length
-    same-length-2
-    returns)
+    (λ c. refl)
+    fill-heights-requires
+    (λ c. refl)
+    (λ c. refl)
+    fill-reads-requires
+    (λ c. refl)
+    (λ c. refl)
+    (λ c. refl)
+    (λ c. refl)
+    fill-sides-requires
+    (λ c. refl)
+    apart-classes-requires
+    (λ c. search needs)
+    (λ c. search needs)
+    (λ c. search needs)
+    (λ c. search needs)
+    (λ c. search needs)
+    (λ c. search needs)
+    (λ c. search needs)
+    (λ c. search needs)
+    tell-places-requires
+    (λ c. search needs)
+    (λ c. search needs)
+    (λ c. c .before .before .before .before .tell-places .ensures))

@@ -1,49 +1,22 @@
--- `differences::clear` meets its contract. The invariant: the first k bytes are 0, the others as they were.
-use Prim.Native.Nat.{_-_, _≤_}
-use mathlib.Core.Path.{_≡_}
-use mathlib.Core.List.{_++_}
+-- `differences::clear` meets its contract. The invariant: the first k bytes are 0.
+use Prim.Native.Nat.{ℕ, _-_, _≤_}
+use mathlib.Core.Path.{_≡_, refl, _∙_}
 use native.Mathlib.Omega.{arith}
-use lib.ListN.{length, drop, length-set}
-use denote.Ref.{now}
-use borrow.Author.Fill.{fill-none, fill-more}
-use Rattle.differences.specs.Settle.{zeros}
+use lib.ListN.{length}
+use Rattle.lists.specs.Filled.{Filled, filled-none, filled-more, filled-all, tabulate-value}
 use Rattle.differences.proofs.clear.Statement.{statement}
 use Rattle.differences.proofs.clear.Tie as tie
 
 abbrev Inv-loop : tie.InvT-loop
-Inv-loop table₀ size k₀ table k = (k ≤ size) × ((table ≡ zeros k ++ drop k table₀) × (length table ≡ length table₀))
+Inv-loop table₀ k₀ k-end table k = (k ≤ length table₀) × Filled {A = ℕ} (λ _. 0) 0 k (length table₀) table
 
 abbrev μ-loop : tie.MeasureT-loop
-μ-loop table₀ size k₀ table k = size - k
-
-loop-holds : tie.Need-loop-holds Inv-loop μ-loop
-loop-holds c = (omega arith, (fill-none (now (c .args .table)) 0, omega arith))
-
-slice-write-table : tie.Need-slice-write-table Inv-loop μ-loop
-slice-write-table c = omega arith
-
-add-k : tie.Need-add-k Inv-loop μ-loop
-add-k c = omega arith
-
-loop-less : tie.Need-loop-less Inv-loop μ-loop
-loop-less c = omega arith
-
-loop-again : tie.Need-loop-again Inv-loop μ-loop
-loop-again c = let s = c .before .before in
-    let l = c .before .loop in (
-      omega arith,
-      (
-        rw (l .inv .1 .0) (fill-more (l .k) 0 (now (s .args .table)) (omega arith)),
-        simp length-set (omega arith),
-      ),
-    )
-
-same-length : tie.Need-same-length Inv-loop μ-loop
-same-length c = omega arith
+μ-loop table₀ k₀ k-end table k = length table₀ - k
 
 returns : tie.Need-returns Inv-loop μ-loop
-returns c = let e : c .before .loop .k ≡ c .before .before .args .size = omega arith in
-    rw e at (c .before .loop .inv .1 .0)
+returns c = let i = c .before .loop .inv in
+    let e : c .before .loop .k ≡ length (c .before .before .args .table .now) = omega (arith, c .loop-test .left, i .0) in
+    filled-all {A = ℕ} (λ _. 0) 0 (rw e at (i .1)) ∙ tabulate-value {A = ℕ} 0 0 (length (c .before .before .args .table .now))
 
 pub clear-spec : {M : Type 1} → statement M
 clear-spec =
@@ -51,10 +24,10 @@ clear-spec =
     (tie.spec
     Inv-loop
     μ-loop
-    loop-holds
-    slice-write-table
-    add-k
-    loop-less
-    loop-again
-    same-length
+    (λ c. (omega arith, filled-none _ 0 refl))
+    (λ c. omega (arith, c .before .loop .inv .1 .long, c .loop-test .taken))
+    (λ c. omega arith)
+    (λ c. omega arith)
+    (λ c. (omega (arith, c .loop-test .taken), filled-more _ 0 (c .before .loop .inv .1) (omega (arith, c .loop-test .taken)) refl))
+    (λ c. c .before .loop .inv .1 .long)
     returns)

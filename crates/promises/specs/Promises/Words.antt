@@ -5,7 +5,7 @@ pub use mathlib.Core.Logic.{_⊎_, _↔_}
 pub use mathlib.Core.Bool.{true, false}
 pub use mathlib.Core.List.{List, _++_}
 pub use mathlib.Core.Option.{none, some}
-pub use lib.IntN.{ℤ, pos, negℤ}
+pub use lib.IntN.{ℤ, pos, negℤ, _+ℤ_, _-ℤ_}
 pub use lib.ListN.{length, getD, set, take, drop}
 pub use Rattle.integers.specs.Within.{Within}
 pub use Rattle.lists.specs.Items.{Item}

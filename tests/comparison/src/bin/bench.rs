@@ -1,4 +1,4 @@
-//! The proved solver beside the second solver, in one run: the time of each on sets of eleven families and its ratio, how the time grows
+//! The proved solver beside the second solver, in one run: the time of each on sets of 31 families and its ratio, how the time grows
 //! from 128 to 256 to 512 terms, for a whole solve and for the verdict alone; contradictory full sets with blame and without,
 //! beside one verdict on them; and both readers on full texts.
 
@@ -6,7 +6,7 @@ use comparison::memory::any_tables;
 use comparison::{proved, sets};
 use second_solver::memory::Memory;
 use second_solver::reader;
-use second_solver::support::{Numbers, Set};
+use second_solver::support::{mixed, Numbers, Set};
 use second_solver::tables::{self, Blame, Outcome};
 use std::hint::black_box;
 use std::time::Instant;
@@ -80,6 +80,27 @@ fn families() {
     family("listed twice", |_, size| sets::listed_twice(size));
     family("twice, in cycle", |_, size| sets::listed_twice_in_a_cycle(size));
     family("one slot", |_, size| sets::one_slot(size));
+    // differences that lead on
+    family("walked chains", |_, size| sets::walked_chains(size, 1));
+    family("walked, twice", |_, size| sets::walked_chains(size, 2));
+    family("through atoms", |r, size| sets::chains_through_atoms(r, size, usize::MAX));
+    family("two arrays", |_, size| sets::two_arrays(size));
+    family("one class, read", sets::one_class_read);
+    family("into one class", |r, size| sets::read_into_one_class(r, size, 1));
+    family("into one, wide", |r, size| sets::read_into_one_class(r, size, 1 << 10));
+    family("listed again 2", |r, size| sets::listed_again(r, size, 2));
+    family("listed again 4", |r, size| sets::listed_again(r, size, 4));
+    family("listed again 16", |r, size| sets::listed_again(r, size, 16));
+    family("few classes 2", |r, size| sets::few_classes(r, size, 2));
+    family("few classes 4", |r, size| sets::few_classes(r, size, 4));
+    family("few classes 16", |r, size| sets::few_classes(r, size, 16));
+    family("mixed 2", |r, size| mixed(r, size, 2, 8 * size, size / 16));
+    family("mixed 4", |r, size| mixed(r, size, 4, 8 * size, size / 16));
+    family("mixed 16", |r, size| mixed(r, size, 16, 8 * size, size / 16));
+    family("mixed 2, sparse", |r, size| mixed(r, size, 2, size * size / 8, size / 16));
+    family("mixed 4, narrow", |r, size| mixed(r, size, 4, size / 8, size / 16));
+    family("mixed 2, wide", |r, size| mixed(r, size, 2, 1 << 20, size / 16));
+    family("mixed 2, narrow", |r, size| mixed(r, size, 2, size / 8, size / 16));
     println!();
 }
 

@@ -1,5 +1,5 @@
-//! Compares the proved solver with the second solver: small sets, whole, damaged and with odd values in every field, and full sets, each
-//! with blame and without. Every returned value and every lent cell is compared, and so are the cells before those lent, the tables and the verdict alone; past
+//! Compares the proved solver with the second solver: small sets, whole, damaged and with odd values in every field, small and full sets
+//! in which differences lead on, and other full sets, each with blame and without. Every returned value and every lent cell is compared, and so are the cells before those lent, the tables and the verdict alone; past
 //! each table and lent array is a closed page. Then both readers on small texts, whole and damaged, and full ones. Last line:
 //! "N passed, M failed".
 //!
@@ -254,6 +254,14 @@ fn compare_sets(run: &mut Run, r: &mut Numbers) {
             sets::damage(r, &mut set);
         }
         run.set(r, "several odd", &set, 0);
+    }
+    for k in 0..sets::LEADING_SMALL {
+        let set = sets::leading_small(r, k);
+        run.set(r, "small leading", &set, 0);
+    }
+    for k in 0..sets::LEADING_FULL {
+        let set = sets::leading_full(r, k);
+        run.set(r, "full leading", &set, 0);
     }
     for k in 0..200 {
         let mut set = full(r, k);

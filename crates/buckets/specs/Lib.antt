@@ -1,0 +1,2 @@
+-- Chains of numbers by key.
+pub mod Buckets

@@ -1,0 +1,67 @@
+-- `differences::fill_table` meets its contract.
+use native.Mathlib.Omega.{arith}
+use denote.Ref.{now}
+use borrow.Author.Needs.{needs}
+use Rattle.differences.specs.Expand.{homes-own}
+use Rattle.differences.specs.Table.{base-uniform, room-based, table-told}
+use Rattle.differences.proofs.fill_table.Statement.{statement}
+use Rattle.differences.proofs.fill_table.Tie as tie
+
+note-readers-requires : tie.Need-note-readers-requires
+note-readers-requires c κs = c .before .before .before .before .before .before .before .before .before .before .before .before .before .before .before .before .before .before .before .before .pre .1 .0 .leads-are .long
+
+mark-base-requires : tie.Need-mark-base-requires
+mark-base-requires c κs = let p = c .before .before .before .before .before .before .before .before .before .before .before .before .before .before .before .before .before .before .before .before .before .before .before .pre in (c .before .before .before .before .before .before .before .before .before .before .before .before .before .before .before .before .before .before .before .before .before .before .before .pre .1 .1, (p .0 .0 .sides, (p .0 .0 .apart-room, p .0 .1)))
+
+settle-requires : tie.Need-settle-requires
+settle-requires c κs = let s = c .before .before .before .before .before .before .before .before .before .before .before .before .before .before .before .before .before .before .before .before .before .before .before .before .before .before .before .before in
+    let p = s .pre in
+    let G = p .0 .0 in
+    let L = p .1 .0 .leads-are in (
+      c .before .before .before .before .before .before .before .before .before .before .before .before .before .before .before .before .before .before .before .before .before .before .before .before .before .before .before .before .pre .1 .1,
+      (
+        record {
+          reading = G .reading;
+          looks = record { few = G .reading .few; reads-long = G .reading .classes-long; homes-long = p .1 .0 .homes-are .long; homes-below = p .1 .0 .homes-are .below; apart-room = G .apart-room };
+        },
+        (
+          record { few = omega (arith, L .few, G .reading .few); long = L .long; below = L .below },
+          (
+            room-based (s .args .n) (s .args .m) (now (s .args .points)) (now (s .args .heights)) (now (s .args .left-classes)) (now (s .args .left-heights)) (now (s .args .right-classes)) (now (s .args .right-heights)) (now (s .args .apart)) (now (s .args .pairs)) (c .before .before .before .before .mark-base .ensures) (p .0 .1),
+            base-uniform (s .args .n) (s .args .m) (now (s .args .points)) (now (s .args .heights)) (now (s .args .left-classes)) (now (s .args .left-heights)) (now (s .args .right-classes)) (now (s .args .right-heights)) (now (s .args .apart)) (c .before .before .before .before .mark-base .ensures),
+          ),
+        ),
+      ),
+    )
+
+expand-requires : tie.Need-expand-requires
+expand-requires c κs = let s = c .before .before .before .before .before .before .before .before .before .before .before .before .before .before .before .before .before .before .before .before .before .before .before .before .before .before .before .before .before .before .before .before in
+    let p = s .pre in (
+      p .0 .0 .reading .few,
+      (
+        homes-own (p .1 .0 .homes-are),
+        omega (
+          arith,
+          c .before .before .before .settle .ensures .grows .long,
+          room-based (s .args .n) (s .args .m) (now (s .args .points)) (now (s .args .heights)) (now (s .args .left-classes)) (now (s .args .left-heights)) (now (s .args .right-classes)) (now (s .args .right-heights)) (now (s .args .apart)) (now (s .args .pairs)) (c .before .before .before .before .before .before .before .before .mark-base .ensures) (p .0 .1),
+        ),
+      ),
+    )
+
+returns : tie.Need-returns
+returns c = let s = c .before .before .before .before .before .before .before .before .before .before .before .before .before .before .before .before .before .before .before .before .before .before .before .before .before .before .before .before .before .before .before .before .before .before .before .args in
+    let p = c .before .before .before .before .before .before .before .before .before .before .before .before .before .before .before .before .before .before .before .before .before .before .before .before .before .before .before .before .before .before .before .before .before .before .before .pre in
+    table-told (s .n) (s .m) (now (s .classes)) (now (s .heights)) (now (s .homes)) (now (s .points)) (now (s .reads)) (now (s .read-heights)) (now (s .leads)) (now (s .left-classes)) (now (s .left-heights)) (now (s .right-classes)) (now (s .right-heights)) (now (s .apart))
+    (p .0 .0 .terms) (p .0 .0 .sides) (p .1 .0 .homes-are) (p .1 .0 .points-are) (p .1 .0 .leads-are) (c .before .before .before .before .before .before .before .before .before .before .before .mark-base .ensures) (c .before .before .before .before .before .before .settle .ensures) (c .before .before .expand .ensures)
+
+pub fill-table-spec : {M : Type 1} → statement M
+fill-table-spec =
+    tie.close
+    (tie.spec
+    (λ c κs. search needs)
+    note-readers-requires
+    mark-base-requires
+    settle-requires
+    expand-requires
+    (λ c. search needs)
+    returns)

@@ -1,0 +1,3 @@
+-- Pairs of points by their distance.
+pub mod Distances
+pub mod Placing

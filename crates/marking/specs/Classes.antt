@@ -1,0 +1,88 @@
+-- Terms that differ by their classes, and the sides of disequalities.
+use Prim.Native.Nat.{ℕ, _+_, _*_, _<_, _≤_}
+use mathlib.Core.Path.{_≡_, refl, sym, _∙_}
+use mathlib.Core.Logic.{_≢_, inl, inr}
+use mathlib.Core.Bool.{Bool, true, false, not, _&&_, _||_}
+use mathlib.Core.List.{List}
+use native.Mathlib.Omega.{arith}
+use lib.Dec.{eqb}
+use lib.ListN.{length}
+use borrow.Author.Tests.{eqb-true, eqb-false, eq-eqb, ne-eqb, not-true}
+use Rattle.lists.specs.Booleans.{and-true}
+use Rattle.pairbits.specs.Bits.{isSet}
+use Rattle.points.specs.Places.{class, height, At, AtEither, top}
+use Rattle.marking.specs.Marks.{Adds, One, Upto, adds-as}
+
+-- one class, at another height
+abbrev pub otherHeight : ℕ → ℕ → ℕ → ℕ → Bool
+otherHeight a p b q = eqb a b && not (eqb p q)
+
+-- places differ by their classes: apart, by the table of apart classes, or one class at another height
+unfoldable pub classesDiffer : ℕ → List ℕ → ℕ → ℕ → ℕ → ℕ → Bool
+classesDiffer n apart a p b q = isSet apart (a * n + b) || otherHeight a p b q
+
+-- two terms by their classes
+abbrev pub placesDiffer : ℕ → List ℕ → List ℕ → List ℕ → ℕ → ℕ → Bool
+placesDiffer n apart classes heights i j = classesDiffer n apart (class classes i) (height heights i) (class classes j) (height heights j)
+
+-- two homes by their classes; the class of what is no home is n
+abbrev pub PointsDiffer : ℕ → List ℕ → List ℕ → List ℕ → ℕ → ℕ → Type 0
+PointsDiffer n apart points heights i j = (class points i < n) × ((class points j < n) × (placesDiffer n apart points heights i j ≡ true))
+
+-- the pair (i, j), where they differ
+abbrev pub ClassPair : ℕ → List ℕ → List ℕ → List ℕ → ℕ → ℕ → ℕ → ℕ → Type 0
+ClassPair n apart points heights i j x y = PointsDiffer n apart points heights i j × One i j x y
+
+pub all-classes :
+    (n : ℕ) (apart points heights : List ℕ) {old new : List ℕ} →
+    Adds n (Upto n (λ i. Upto n (ClassPair n apart points heights i))) old new →
+    Adds n (PointsDiffer n apart points heights) old new
+all-classes n apart points heights a =
+    adds-as n (Upto n (λ i. Upto n (ClassPair n apart points heights i))) (PointsDiffer n apart points heights) a
+    (λ x y hx hy (i, hi, (j, hj, (e, o))). rw (o .0, o .1) e)
+    (λ x y hx hy e. (x, hx, (y, hy, (e, (refl, refl)))))
+
+-- the places of the two sides of proposition k; the class of what is no disequality is n
+pub record Side (n : ℕ) (leftClasses leftHeights rightClasses rightHeights : List ℕ) (k : ℕ) : Type 0 where
+  pub left-there : k < length leftClasses
+  pub left-height-there : k < length leftHeights
+  pub right-there : k < length rightClasses
+  pub right-height-there : k < length rightHeights
+  pub inside : class leftClasses k < n → class rightClasses k < n
+  pub left-low : height leftHeights k < top
+  pub right-low : height rightHeights k < top
+
+-- of m propositions
+abbrev pub Sides : ℕ → ℕ → List ℕ → List ℕ → List ℕ → List ℕ → Type 0
+Sides n m leftClasses leftHeights rightClasses rightHeights = (k : ℕ) → k < m → Side n leftClasses leftHeights rightClasses rightHeights k
+
+module _ (n : ℕ) (classes heights leftClasses leftHeights rightClasses rightHeights : List ℕ) where
+  -- the pairs as far apart as the sides of disequality k
+  abbrev pub Listed : ℕ → ℕ → ℕ → Type 0
+  Listed k = AtEither classes heights (class leftClasses k) (height leftHeights k) (class rightClasses k) (height rightHeights k)
+
+  abbrev pub sidesDiffer : ℕ → Bool
+  sidesDiffer k = otherHeight (class leftClasses k) (height leftHeights k) (class rightClasses k) (height rightHeights k)
+
+  -- unless its sides are in one class at different heights: then so are the pairs
+  abbrev pub ListedPair : ℕ → ℕ → ℕ → Type 0
+  ListedPair k x y = (class leftClasses k < n) × ((sidesDiffer k ≡ false) × Listed k x y)
+
+pub other-parts : (a p b q : ℕ) → otherHeight a p b q ≡ true → (a ≡ b) × (p ≢ q)
+other-parts a p b q e =
+    let r = and-true (eqb a b) _ e in
+    (eqb-true a b (r .0), eqb-false p q (not-true _ (r .1)))
+
+pub parts-other : (a p b q : ℕ) → a ≡ b → p ≢ q → otherHeight a p b q ≡ true
+parts-other a p b q e m = rw (eq-eqb a b e, ne-eqb p q m)
+
+-- the pairs as far apart as two places in one class at different heights are in one class at different heights too
+pub other-moved : {classes heights : List ℕ} {a p b q : ℕ} (x y : ℕ) → otherHeight a p b q ≡ true → AtEither classes heights a p b q x y → otherHeight (class classes x) (height heights x) (class classes y) (height heights y) ≡ true
+other-moved {classes} {heights} {a} {p} {b} {q} x y o (inl d) =
+    let r = other-parts a p b q o in
+    let m = r .1 in
+    parts-other (class classes x) (height heights x) (class classes y) (height heights y) (d .left ∙ r .0 ∙ sym (d .right)) (λ e. m (let f = d .far in omega arith))
+other-moved {classes} {heights} {a} {p} {b} {q} x y o (inr d) =
+    let r = other-parts a p b q o in
+    let m = r .1 in
+    parts-other (class classes x) (height heights x) (class classes y) (height heights y) (d .right ∙ sym (r .0) ∙ sym (d .left)) (λ e. m (let f = d .far in omega arith))

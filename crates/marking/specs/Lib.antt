@@ -1,0 +1,5 @@
+-- Pairs that are marked (Marks), those at a distance (Pairs), what is known of all of them (Known), classes and disequalities (Classes).
+pub mod Classes
+pub mod Known
+pub mod Marks
+pub mod Pairs
