@@ -60,7 +60,7 @@ fn mark_base(
     ensures { λ _. ⌜ Based n m (before points) (before heights) (before «left_classes») (before «left_heights») (before «right_classes») (before «right_heights») (before apart) (length (before pairs)) (after pairs) ⌝ }
 {
     clear(pairs);
-    mark_classes(n, points, heights, apart, pairs);
+    mark_classes(n, points, heights, apart, class_first, class_next, pairs);
     mark_listed(
         n,
         m,

@@ -1,21 +1,30 @@
 -- Terms that differ by their classes, and the sides of disequalities.
-use Prim.Native.Nat.{ℕ, _+_, _*_, _<_, _≤_}
+use Prim.Native.Nat.{ℕ, _+_, _*_, _-_, _/_, _<_, _≤_}
 use mathlib.Core.Path.{_≡_, refl, sym, _∙_}
-use mathlib.Core.Logic.{_≢_, inl, inr}
+use mathlib.Core.Logic.{_≢_, inl, inr, ⊎-elim}
 use mathlib.Core.Bool.{Bool, true, false, not, _&&_, _||_}
 use mathlib.Core.List.{List}
 use native.Mathlib.Omega.{arith}
-use lib.Dec.{eqb}
-use lib.ListN.{length}
-use borrow.Author.Tests.{eqb-true, eqb-false, eq-eqb, ne-eqb, not-true}
-use Rattle.lists.specs.Booleans.{and-true}
-use Rattle.pairbits.specs.Bits.{isSet}
+use lib.Dec.{eqb, ltb}
+use lib.ListN.{length, getD}
+use borrow.Author.Tests.{eqb-true, eqb-false, eq-eqb, lt-ltb, ltb-true, ne-eqb, not-true}
+use Rattle.lists.specs.Booleans.{and-true, both-true, false-true, or-cases, or-second}
+use Rattle.lists.specs.Filled.{same-or-not}
+use Rattle.pairbits.specs.Bits.{isSet, isSet-zero}
 use Rattle.points.specs.Places.{class, height, At, AtEither, top}
-use Rattle.marking.specs.Marks.{Adds, One, Upto, adds-as}
+use Rattle.marking.specs.Marks.{Adds, One, OneIf, Upto, adds-as}
 
 -- one class, at another height
 abbrev pub otherHeight : ℕ → ℕ → ℕ → ℕ → Bool
 otherHeight a p b q = eqb a b && not (eqb p q)
+
+pub other-parts : (a p b q : ℕ) → otherHeight a p b q ≡ true → (a ≡ b) × (p ≢ q)
+other-parts a p b q e =
+    let r = and-true (eqb a b) _ e in
+    (eqb-true a b (r .0), eqb-false p q (not-true _ (r .1)))
+
+pub parts-other : (a p b q : ℕ) → a ≡ b → p ≢ q → otherHeight a p b q ≡ true
+parts-other a p b q e m = rw (eq-eqb a b e, ne-eqb p q m)
 
 -- places differ by their classes: apart, by the table of apart classes, or one class at another height
 unfoldable pub classesDiffer : ℕ → List ℕ → ℕ → ℕ → ℕ → ℕ → Bool
@@ -25,6 +34,24 @@ classesDiffer n apart a p b q = isSet apart (a * n + b) || otherHeight a p b q
 abbrev pub placesDiffer : ℕ → List ℕ → List ℕ → List ℕ → ℕ → ℕ → Bool
 placesDiffer n apart classes heights i j = classesDiffer n apart (class classes i) (height heights i) (class classes j) (height heights j)
 
+-- j is a home and differs by its class from the place (a, p)
+unfoldable pub differsFrom : ℕ → List ℕ → List ℕ → List ℕ → ℕ → ℕ → ℕ → Bool
+differsFrom n apart points heights a p j = ltb (class points j) n && classesDiffer n apart a p (class points j) (height heights j)
+
+-- where it is none, whatever stands in place of its class tells the same
+pub differs-told :
+    (n : ℕ) (apart points heights : List ℕ) (a p j c : ℕ) → (class points j < n → c ≡ class points j) →
+    (ltb (class points j) n && classesDiffer n apart a p c (height heights j)) ≡ differsFrom n apart points heights a p j
+unfolding differsFrom
+differs-told n apart points heights a p j c f = go (ltb (class points j) n) refl
+  where
+    b : ℕ
+    b = class points j
+
+    go : (t : Bool) → ltb b n ≡ t → (t && classesDiffer n apart a p c (height heights j)) ≡ (t && classesDiffer n apart a p b (height heights j))
+    go true e = rw (f (ltb-true b n e))
+    go false e = refl
+
 -- two homes by their classes; the class of what is no home is n
 abbrev pub PointsDiffer : ℕ → List ℕ → List ℕ → List ℕ → ℕ → ℕ → Type 0
 PointsDiffer n apart points heights i j = (class points i < n) × ((class points j < n) × (placesDiffer n apart points heights i j ≡ true))
@@ -32,6 +59,64 @@ PointsDiffer n apart points heights i j = (class points i < n) × ((class points
 -- the pair (i, j), where they differ
 abbrev pub ClassPair : ℕ → List ℕ → List ℕ → List ℕ → ℕ → ℕ → ℕ → ℕ → Type 0
 ClassPair n apart points heights i j x y = PointsDiffer n apart points heights i j × One i j x y
+
+-- the bit of a pair, written if the two differ
+pub class-written :
+    (n : ℕ) (apart points heights : List ℕ) (i j : ℕ) (t : Bool) {old new : List ℕ} → class points i < n →
+    t ≡ differsFrom n apart points heights (class points i) (height heights i) j →
+    Adds n (OneIf t i j) old new → Adds n (ClassPair n apart points heights i j) old new
+unfolding differsFrom
+class-written n apart points heights i j t h e a =
+    adds-as n (OneIf t i j) (ClassPair n apart points heights i j) a
+    (λ x y hx hy d. let r = and-true (ltb (class points j) n) _ (sym e ∙ d .0) in ((h, (ltb-true _ _ (r .0), r .1)), d .1))
+    (λ x y hx hy d. (e ∙ both-true _ _ (lt-ltb _ _ (d .0 .1 .0)) (d .0 .1 .1), d .1))
+
+-- no class is apart from a
+pub record NoneApart (n : ℕ) (apart : List ℕ) (a : ℕ) : Type 0 where
+  pub none : (b : ℕ) → b < n → isSet apart (a * n + b) ≡ false
+
+-- the bytes from f on and before k are 0
+pub record ZeroBytes (f k : ℕ) (l : List ℕ) : Type 0 where
+  pub zero : (y : ℕ) → f ≤ y → y < k → getD l y 0 ≡ 0
+
+pub zero-start : (f : ℕ) (l : List ℕ) → ZeroBytes f f l
+zero-start f l = record { zero = λ y h g. absurd (omega arith) }
+
+pub zero-more : {f k : ℕ} {l : List ℕ} → getD l k 0 ≡ 0 → ZeroBytes f k l → ZeroBytes f (k + 1) l
+zero-more {f} {k} {l} e Z = record { zero = λ y h g. ⊎-elim (λ (s : y ≡ k). rw s e) (λ (m : y ≢ k). Z .zero y h (omega arith)) (same-or-not y k) }
+
+pub zero-none : (n a : ℕ) {k : ℕ} {apart : List ℕ} → (a * n + (n - 1)) / 8 < k → ZeroBytes ((a * n + 0) / 8) k apart → NoneApart n apart a
+zero-none n a {k} {apart} h Z = record { none = λ b l. isSet-zero apart (a * n + b) (Z .zero ((a * n + b) / 8) (omega arith) (omega arith)) }
+
+-- the pair (i, j), where j is at another height than p; and is in class a
+abbrev pub OtherPair : List ℕ → ℕ → ℕ → ℕ → ℕ → ℕ → Type 0
+OtherPair heights p i j x y = (height heights j ≢ p) × One i j x y
+
+abbrev pub OwnPair : List ℕ → List ℕ → ℕ → ℕ → ℕ → ℕ → ℕ → ℕ → Type 0
+OwnPair points heights a p i j x y = (class points j ≡ a) × OtherPair heights p i j x y
+
+-- where no class is apart from that of i, only the homes of its own differ
+pub own-classes :
+    (n : ℕ) (apart points heights : List ℕ) (i : ℕ) {old new : List ℕ} → class points i < n → NoneApart n apart (class points i) →
+    Adds n (Upto n (OwnPair points heights (class points i) (height heights i) i)) old new →
+    Adds n (Upto n (ClassPair n apart points heights i)) old new
+unfolding classesDiffer
+own-classes n apart points heights i h N a =
+    adds-as n (Upto n (OwnPair points heights A P i)) (Upto n (ClassPair n apart points heights i)) a
+    (λ x y hx hy (j, hj, (e, (m, o))). (j, hj, ((h, (rw e h, or-second (isSet apart (A * n + class points j)) _ (parts-other A P (class points j) (height heights j) (sym e) (λ s. m (sym s))))), o)))
+    (λ x y hx hy (j, hj, (d, o)). (j, hj, other j (d .1 .0) (d .1 .1) o))
+  where
+    A : ℕ
+    A = class points i
+
+    P : ℕ
+    P = height heights i
+
+    other : (j : ℕ) {x y : ℕ} → class points j < n → (isSet apart (A * n + class points j) || otherHeight A P (class points j) (height heights j)) ≡ true → One i j x y → OwnPair points heights A P i j x y
+    other j g e o =
+        ⊎-elim (λ s. false-true (N .none (class points j) g) s)
+        (λ s. let r = other-parts A P (class points j) (height heights j) s in (sym (r .0), ((λ t. r .1 (sym t)), o)))
+        (or-cases (isSet apart (A * n + class points j)) _ e)
 
 pub all-classes :
     (n : ℕ) (apart points heights : List ℕ) {old new : List ℕ} →
@@ -67,14 +152,6 @@ module _ (n : ℕ) (classes heights leftClasses leftHeights rightClasses rightHe
   -- unless its sides are in one class at different heights: then so are the pairs
   abbrev pub ListedPair : ℕ → ℕ → ℕ → Type 0
   ListedPair k x y = (class leftClasses k < n) × ((sidesDiffer k ≡ false) × Listed k x y)
-
-pub other-parts : (a p b q : ℕ) → otherHeight a p b q ≡ true → (a ≡ b) × (p ≢ q)
-other-parts a p b q e =
-    let r = and-true (eqb a b) _ e in
-    (eqb-true a b (r .0), eqb-false p q (not-true _ (r .1)))
-
-pub parts-other : (a p b q : ℕ) → a ≡ b → p ≢ q → otherHeight a p b q ≡ true
-parts-other a p b q e m = rw (eq-eqb a b e, ne-eqb p q m)
 
 -- the pairs as far apart as two places in one class at different heights are in one class at different heights too
 pub other-moved : {classes heights : List ℕ} {a p b q : ℕ} (x y : ℕ) → otherHeight a p b q ≡ true → AtEither classes heights a p b q x y → otherHeight (class classes x) (height heights x) (class classes y) (height heights y) ≡ true

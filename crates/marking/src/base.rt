@@ -1,18 +1,27 @@
 // The pairs that differ by the classes of their terms, or by a listed disequality.
 use crate::between::mark_between;
+use crate::bits::first_byte;
+use crate::bits::last_byte;
+use crate::bits::pair_number;
 use crate::bits::set_pair;
 use crate::bits::test_pair;
+use crate::bits::write_pair;
 use crate::notes::Notes;
+use pairbits::byte_at;
 use points::places::index;
+use points::places::linked;
 use types::PropositionNumber;
 use types::TermNumber;
 ghost use mathlib.Core.Path.{_≡_};
+ghost use mathlib.Core.Bool.{true};
 ghost use Prim.Native.Nat.{_<_, _≤_};
+ghost use lib.ListN.{length};
+ghost use Rattle.buckets.specs.Buckets.{Chains};
 ghost use Rattle.lists.specs.Lent.{before, after};
 ghost use Rattle.tables.specs.Limits.{most};
 ghost use Rattle.marking.specs.Marks.{Adds, Inside, Room, Upto};
-ghost use Rattle.points.specs.Places.{Chained, Column, Here};
-ghost use Rattle.marking.specs.Classes.{ClassPair, classesDiffer, ListedPair, otherHeight, PointsDiffer, Side, Sides};
+ghost use Rattle.points.specs.Places.{Chained, class, classSlots, Column};
+ghost use Rattle.marking.specs.Classes.{ClassPair, classesDiffer, differsFrom, ListedPair, NoneApart, otherHeight, OtherPair, OwnPair, PointsDiffer, Side, Sides};
 
 // Whether two places are in one class at different heights.
 pub(crate) fn other_height(a: u32, p: u64, b: u32, q: u64) -> bool
@@ -26,40 +35,40 @@ pub fn classes_differ(n: usize, a: u32, p: u64, b: u32, q: u64, apart: &[u8]) ->
     requires { ⌜ (n ≤ most) × ((a < n) × ((b < n) × Room n (now apart))) ⌝ }
     ensures { λ r. ⌜ r ≡ classesDiffer n (before apart) a p b q ⌝ }
 {
-    if test_pair(n, TermNumber(index(a)), TermNumber(index(b)), apart) {
-        return true;
-    }
-    other_height(a, p, b, q)
+    let apart_classes = test_pair(n, TermNumber(index(a)), TermNumber(index(b)), apart);
+    apart_classes | other_height(a, p, b, q)
 }
 
-// The pair (i, j), where i is at the place (a, p), if j is a home and they differ by their classes. The class of what is no home is n.
-fn mark_class_pair(
+// The class b, or the class a where b is none.
+fn class_or(n: usize, b: u32, a: u32) -> u32
+    requires { ⌜ a < n ⌝ }
+    ensures { λ r. ⌜ (r < n) × (b < n → r ≡ b) ⌝ }
+{
+    if index(b) < n { b } else { a }
+}
+
+// Whether j is a home, and differs by its class from the place (a, p). The class of what is no home is n. All is tested in any case: a
+// branch would often be guessed wrong.
+fn differs_from(
     n: usize,
-    i: TermNumber,
     a: u32,
     p: u64,
     j: TermNumber,
     points: &[u32],
     heights: &[u64],
     apart: &[u8],
-    pairs: &mut [u8],
-)
-    requires { ⌜ Column n (now points) (now heights) × (Inside n (i .0) (j .0) × (Here (now points) (now heights) a p (i .0) × ((a < n) × (Room n (now apart) × Room n (now pairs))))) ⌝ }
-    ensures { λ _. ⌜ Adds n (ClassPair n (before apart) (before points) (before heights) (i .0) (j .0)) (before pairs) (after pairs) ⌝ }
+) -> bool
+    requires { ⌜ Column n (now points) (now heights) × ((a < n) × ((j .0 < n) × Room n (now apart))) ⌝ }
+    ensures { λ r. ⌜ r ≡ differsFrom n (before apart) (before points) (before heights) a p (j .0) ⌝ }
 {
     let y = j.0;
     let b = points[y];
-    if n <= index(b) {
-        return;
-    }
-    if !classes_differ(n, a, p, b, heights[y], apart) {
-        return;
-    }
-    set_pair(n, i, j, pairs);
+    let c = class_or(n, b, a);
+    (index(b) < n) & classes_differ(n, a, p, c, heights[y], apart)
 }
 
-// The pairs of i that differ by their classes, if it is a home.
-fn mark_classes_of(
+// The pairs of the home i that differ by their classes.
+fn mark_row(
     n: usize,
     i: TermNumber,
     points: &[u32],
@@ -67,27 +76,129 @@ fn mark_classes_of(
     apart: &[u8],
     pairs: &mut [u8],
 )
-    requires { ⌜ Column n (now points) (now heights) × ((i .0 < n) × (Room n (now apart) × Room n (now pairs))) ⌝ }
+    requires { ⌜ Column n (now points) (now heights) × ((i .0 < n) × ((class (now points) (i .0) < n) × (Room n (now apart) × Room n (now pairs)))) ⌝ }
     ensures { λ _. ⌜ Adds n (Upto n (ClassPair n (before apart) (before points) (before heights) (i .0))) (before pairs) (after pairs) ⌝ }
 {
     let x = i.0;
     let a = points[x];
     let p = heights[x];
-    if n <= index(a) {
+    let mut byte = first_byte(n, i, pairs);
+    for j in 0..n {
+        let differs = differs_from(n, a, p, TermNumber(j), points, heights, apart);
+        byte = write_pair(n, i, TermNumber(j), byte, differs, pairs);
+    }
+    last_byte(n, i, byte, pairs);
+}
+
+// Whether no class is apart from class a: all bytes that hold its bits are 0.
+fn none_apart(n: usize, a: u32, apart: &[u8]) -> bool
+    requires { ⌜ (n ≤ most) × (a < n) ⌝ }
+    ensures { λ r. ⌜ (r ≡ true → NoneApart n (before apart) a) ⌝ }
+{
+    let first = pair_number(n, TermNumber(index(a)), TermNumber(0));
+    let last = pair_number(n, TermNumber(index(a)), TermNumber(n - 1));
+    for k in first / 8..last / 8 + 1 {
+        if byte_at(apart, k) != 0 {
+            return false;
+        }
+    }
+    true
+}
+
+// The pair (i, j), if j is at another height than p.
+fn mark_other(n: usize, i: TermNumber, p: u64, j: TermNumber, heights: &[u64], pairs: &mut [u8])
+    requires { ⌜ Inside n (i .0) (j .0) × ((n ≤ length (now heights)) × Room n (now pairs)) ⌝ }
+    ensures { λ _. ⌜ Adds n (OtherPair (before heights) p (i .0) (j .0)) (before pairs) (after pairs) ⌝ }
+{
+    let y = j.0;
+    if heights[y] == p {
         return;
     }
-    for j in 0..n {
-        mark_class_pair(n, i, a, p, TermNumber(j), points, heights, apart, pairs);
+    set_pair(n, i, j, pairs);
+}
+
+// The pairs of i with the homes of class a at other heights than p.
+fn mark_own(
+    n: usize,
+    i: TermNumber,
+    a: u32,
+    p: u64,
+    points: &[u32],
+    heights: &[u64],
+    class_first: &[u16],
+    class_next: &[u16],
+    pairs: &mut [u8],
+)
+    requires { ⌜ Column n (now points) (now heights) × (Chains n classSlots (now points) (now «class_first») (now «class_next») × ((i .0 < n) × ((a < n) × Room n (now pairs)))) ⌝ }
+    ensures { λ _. ⌜ Adds n (Upto n (OwnPair (before points) (before heights) a p (i .0))) (before pairs) (after pairs) ⌝ }
+{
+    let mut j = linked(class_first, index(a));
+    while j < n {
+        mark_other(n, i, p, TermNumber(j), heights, pairs);
+        j = linked(class_next, j);
     }
 }
 
+// The pairs of i that differ by their classes, if it is a home. Where no class is apart from its own, only the homes of its own differ.
+fn mark_classes_of(
+    n: usize,
+    i: TermNumber,
+    points: &[u32],
+    heights: &[u64],
+    apart: &[u8],
+    class_first: &[u16],
+    class_next: &[u16],
+    pairs: &mut [u8],
+)
+    requires { ⌜ Column n (now points) (now heights) × (Chains n classSlots (now points) (now «class_first») (now «class_next») × ((i .0 < n) × (Room n (now apart) × Room n (now pairs)))) ⌝ }
+    ensures { λ _. ⌜ Adds n (Upto n (ClassPair n (before apart) (before points) (before heights) (i .0))) (before pairs) (after pairs) ⌝ }
+{
+    let x = i.0;
+    let a = points[x];
+    if n <= index(a) {
+        return;
+    }
+    if none_apart(n, a, apart) {
+        mark_own(
+            n,
+            i,
+            a,
+            heights[x],
+            points,
+            heights,
+            class_first,
+            class_next,
+            pairs,
+        );
+        return;
+    }
+    mark_row(n, i, points, heights, apart, pairs);
+}
+
 // The pairs of homes that differ by their classes. Public for the crate `differences`.
-pub fn mark_classes(n: usize, points: &[u32], heights: &[u64], apart: &[u8], pairs: &mut [u8])
-    requires { ⌜ Column n (now points) (now heights) × (Room n (now apart) × Room n (now pairs)) ⌝ }
+pub fn mark_classes(
+    n: usize,
+    points: &[u32],
+    heights: &[u64],
+    apart: &[u8],
+    class_first: &[u16],
+    class_next: &[u16],
+    pairs: &mut [u8],
+)
+    requires { ⌜ Column n (now points) (now heights) × (Chains n classSlots (now points) (now «class_first») (now «class_next») × (Room n (now apart) × Room n (now pairs))) ⌝ }
     ensures { λ _. ⌜ Adds n (PointsDiffer n (before apart) (before points) (before heights)) (before pairs) (after pairs) ⌝ }
 {
     for i in 0..n {
-        mark_classes_of(n, TermNumber(i), points, heights, apart, pairs);
+        mark_classes_of(
+            n,
+            TermNumber(i),
+            points,
+            heights,
+            apart,
+            class_first,
+            class_next,
+            pairs,
+        );
     }
 }
 

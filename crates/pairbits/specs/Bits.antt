@@ -5,11 +5,11 @@ use mathlib.Core.Bool.{Bool, true, false, _&&_, _||_}
 use mathlib.Core.List.{List, _++_}
 use native.Mathlib.Nat.{pow-suc, zero-div, div-eq-of-lt, div-add-mod', div-lt-iff-lt-mul, mod-lt}
 use native.Mathlib.Omega.{arith}
-use lib.Bits.{bitOr, or-shr, or-step, or-lt}
-use lib.Dec.{eqb, ltb}
+use lib.Bits.{bitOr, or-shr, or-step, or-lt, or-zero-r}
+use lib.Dec.{eqb, ltb, lit<}
 use lib.ListN.{length, getD, set, drop, length-set, length-append, length-drop, List·getD-append, List·getD-eq-default}
-use lib.Pow.{shl-shr, shr-shr, pow-lt, pow-add}
-use lib.Seq.{getD-set-same, getD-set-other, getD-append-add, getD-drop, ext-getD}
+use lib.Pow.{shl-exact, shl-shr, shr-shr, pow-lt, pow-add}
+use lib.Seq.{getD-set-same, getD-set-other, getD-append-add, getD-drop, ext-getD, set-getD}
 use borrow.Author.Tests.{eqb-true, eqb-false, eq-eqb, ne-eqb, ltb-true, ltb-false, le-ltb}
 use Rattle.lists.specs.Tabulate.{tabulate, length-tabulate, tabulate-at}
 use Rattle.outcome.specs.PairBits.{bitOf, bitValue, number, number-bit, pairBit, pairBits, pairBytes, pair-bit, bitValue-below}
@@ -18,9 +18,25 @@ use Rattle.outcome.specs.PairBits.{bitOf, bitValue, number, number-bit, pairBit
 unfoldable pub withBit : List ℕ → ℕ → List ℕ
 withBit bytes i = set bytes (i / 8) (bitOr (getD bytes (i / 8) 0) (2 ^ (i % 8)))
 
+-- the same if b is true
+abbrev pub withBitIf : Bool → List ℕ → ℕ → List ℕ
+withBitIf true bytes i = withBit bytes i
+withBitIf false bytes i = bytes
+
 -- bit i is 1
 unfoldable pub isSet : List ℕ → ℕ → Bool
 isSet bytes i = eqb (bitOf bytes i) 1
+
+-- a byte with a bit shifted into it, at bit i: the shift loses nothing
+pub shifted-in : (b : Bool) (l : List ℕ) (i : ℕ) → set l (i / 8) (bitOr (getD l (i / 8) 0) (bitValue b * 2 ^ (i % 8) % 256)) ≡ withBitIf b l i
+unfolding withBit
+shifted-in true l i =
+    let k = i % 8 in
+    let shift : 1 * 2 ^ k % 256 ≡ 2 ^ k = omega (arith, shl-exact {a = 1} 1 k 8 (lit< tt) (omega arith)) in
+    ap (λ (v : ℕ). set l (i / 8) (bitOr (getD l (i / 8) 0) v)) shift
+shifted-in false l i =
+    let none : 0 * 2 ^ (i % 8) % 256 ≡ 0 = omega arith in
+    ap (λ (v : ℕ). set l (i / 8) (bitOr (getD l (i / 8) 0) v)) none ∙ ap (set l (i / 8)) (or-zero-r (getD l (i / 8) 0)) ∙ set-getD l (i / 8) 0
 
 -- every entry is a byte
 pub record Bytes (l : List ℕ) : Type 0 where

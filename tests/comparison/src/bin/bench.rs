@@ -1,6 +1,7 @@
-//! The proved solver beside the second solver, in one run: the time of each on sets of 31 families and its ratio, how the time grows
-//! from 128 to 256 to 512 terms, for a whole solve and for the verdict alone; contradictory full sets with blame and without,
-//! beside one verdict on them; and both readers on full texts.
+//! The proved solver beside the second solver, in one run: the time of each on sets of 33 families and its ratio, how the time of each
+//! grows from 128 to 256 to 512 terms, for a whole solve and for the verdict alone; contradictory full sets with blame and without,
+//! beside one verdict on them; and both readers on full texts. A family's time is the mean over 8 sets, those of a random family made from
+//! different seeds.
 
 use comparison::memory::any_tables;
 use comparison::{proved, sets};
@@ -21,53 +22,67 @@ fn blamed(memory: &Memory) -> usize {
     memory.marks.iter().filter(|&&mark| mark == 1).count()
 }
 
-/// Seconds of the fastest of 20 calls, and the outcome. Fewer calls once they have taken a second.
-fn fastest(mut call: impl FnMut() -> Outcome) -> (f64, Outcome) {
+/// How many sets of a family are solved by turns, so that a processor cannot learn the branches of one set.
+const SETS: usize = 8;
+
+/// For each of two calls the mean, over the sets, of the seconds of its fastest call on a set, in 20 rounds over all sets. Fewer rounds once
+/// they have taken two seconds.
+fn fastest<T>(sets: &mut [T], calls: [fn(&mut T) -> Outcome; 2]) -> [f64; 2] {
     let begin = Instant::now();
-    let mut timed = || {
-        let start = Instant::now();
-        let outcome = black_box(call());
-        (start.elapsed().as_secs_f64(), outcome)
-    };
-    let mut best = timed();
-    for _ in 1..20 {
-        if begin.elapsed().as_secs_f64() < 1.0 {
-            best.0 = best.0.min(timed().0);
+    let mut best = vec![[f64::MAX; 2]; sets.len()];
+    for round in 0..20 {
+        if round == 0 || begin.elapsed().as_secs_f64() < 2.0 {
+            for (set, best) in sets.iter_mut().zip(&mut best) {
+                let outcomes = [0, 1].map(|k| {
+                    let start = Instant::now();
+                    let outcome = black_box(calls[k](black_box(set)));
+                    best[k] = best[k].min(start.elapsed().as_secs_f64());
+                    outcome
+                });
+                assert_eq!(outcomes[0], outcomes[1]);
+            }
         }
     }
-    best
+    [0, 1].map(|k| best.iter().map(|best| best[k]).sum::<f64>() / sets.len() as f64)
 }
 
-/// The columns of both solvers' times, their ratio and the growth since the proved solver's last time; that time; the outcome.
-fn beside(ours: (f64, Outcome), theirs: (f64, Outcome), last: Option<f64>) -> (String, f64, Outcome) {
-    assert_eq!(ours.1, theirs.1);
-    let growth = last.map_or("-".into(), |last| format!("{:.1}", ours.0 / last));
-    let times = format!("{:>9.3} {:>9.3} {:>7.2} {growth:>6}", ours.0 * 1e3, theirs.0 * 1e3, ours.0 / theirs.0);
-    (times, ours.0, ours.1)
+/// The columns of both solvers' times, their ratio, and the growth of each since its last time.
+fn beside(times: [f64; 2], last: Option<[f64; 2]>) -> String {
+    let growth = last.map_or(["-".into(), "-".into()], |last| [0, 1].map(|k| format!("{:.1}", times[k] / last[k])));
+    format!("{:>9.3} {:>9.3} {:>6.2} {:>6} {:>6}", times[0] * 1e3, times[1] * 1e3, times[0] / times[1], growth[0], growth[1])
 }
 
 fn family(name: &str, build: fn(&mut Numbers, usize) -> Set) {
     let mut last = [None; 2];
     for size in [128, 256, 512] {
-        let mut r = Numbers(7);
-        let mut set = build(&mut r, size);
-        sets::questions(&mut r, &mut set, size);
-        let (input, mut memory) = (set.input(), memory(&set));
-        let theirs = fastest(|| tables::solve(&input, Blame::Asked, &mut memory.lent()));
-        let ours = fastest(|| proved::solve(&input, proved::BLAME, &mut memory.lent()));
-        let (whole, seconds, outcome) = beside(ours, theirs, last[0]);
-        last[0] = Some(seconds);
-        let (ours, theirs) = (fastest(|| proved::verdict(&input)), fastest(|| tables::verdict_only(&input)));
-        let (alone, seconds, _) = beside(ours, theirs, last[1]);
-        last[1] = Some(seconds);
-        let blame = if outcome == Outcome::Contradiction { format!(", {} blamed", blamed(&memory)) } else { "".into() };
-        println!("{name:<16} {:>5} {:>12}  {whole}  {alone}  {outcome:?}{blame}", set.n, set.m);
+        let mut sets: Vec<(Set, Memory)> = (0..SETS)
+            .map(|k| {
+                let mut r = Numbers(7 + 1000 * k as u64);
+                let mut set = build(&mut r, size);
+                sets::questions(&mut r, &mut set, size);
+                let memory = memory(&set);
+                (set, memory)
+            })
+            .collect();
+        let whole = fastest(
+            &mut sets,
+            [
+                |(set, memory)| proved::solve(&set.input(), proved::BLAME, &mut memory.lent()),
+                |(set, memory)| tables::solve(&set.input(), Blame::Asked, &mut memory.lent()),
+            ],
+        );
+        let alone = fastest(&mut sets, [|(set, _)| proved::verdict(&set.input()), |(set, _)| tables::verdict_only(&set.input())]);
+        let (set, memory) = &mut sets[0];
+        let outcome = proved::solve(&set.input(), proved::BLAME, &mut memory.lent());
+        let blame = if outcome == Outcome::Contradiction { format!(", {} blamed", blamed(memory)) } else { "".into() };
+        println!("{name:<16} {:>5} {:>12}  {}  {}  {outcome:?}{blame}", set.n, set.m, beside(whole, last[0]), beside(alone, last[1]));
+        last = [Some(whole), Some(alone)];
     }
 }
 
 fn families() {
-    println!("{:>46} {:>44}", "solve (ms)", "verdict alone (ms)");
-    let times = format!("{:>9} {:>9} {:>7} {:>6}", "proved", "second", "ratio", "growth");
+    println!("{:>46} {:>50}", "solve (ms)", "verdict alone (ms)");
+    let times = format!("{:>9} {:>9} {:>6} {:>13}", "proved", "second", "ratio", "growth");
     println!("{:<16} {:>5} {:>12}  {times}  {times}", "family", "terms", "propositions");
     family("chains", |_, size| sets::chains(size));
     family("tied chains", |_, size| sets::tied_chains(size));
@@ -96,9 +111,11 @@ fn families() {
     family("few classes 16", |r, size| sets::few_classes(r, size, 16));
     family("mixed 2", |r, size| mixed(r, size, 2, 8 * size, size / 16));
     family("mixed 4", |r, size| mixed(r, size, 4, 8 * size, size / 16));
+    family("mixed 6", |r, size| mixed(r, size, 6, 8 * size, size / 16));
     family("mixed 16", |r, size| mixed(r, size, 16, 8 * size, size / 16));
     family("mixed 2, sparse", |r, size| mixed(r, size, 2, size * size / 8, size / 16));
     family("mixed 4, narrow", |r, size| mixed(r, size, 4, size / 8, size / 16));
+    family("mixed 6, narrow", |r, size| mixed(r, size, 6, size / 8, size / 16));
     family("mixed 2, wide", |r, size| mixed(r, size, 2, 1 << 20, size / 16));
     family("mixed 2, narrow", |r, size| mixed(r, size, 2, size / 8, size / 16));
     println!();

@@ -5,10 +5,10 @@ use Rattle.distances.proofs.levels.count_pairs.Statement.{statement}
 use Rattle.distances.proofs.levels.count_pairs.Tie as tie
 
 abbrev Inv-loop : tie.InvT-loop
-Inv-loop n large count apart pairs₀ k₀ pairs k = k ≤ count
+Inv-loop n floor large count apart pairs₀ k₀ pairs k = k ≤ count
 
 abbrev μ-loop : tie.MeasureT-loop
-μ-loop n large count apart pairs₀ k₀ pairs k = count - k
+μ-loop n floor large count apart pairs₀ k₀ pairs k = count - k
 
 pub count-pairs-spec : {M : Type 1} → statement M
 count-pairs-spec =

@@ -5,10 +5,10 @@ use Rattle.distances.proofs.levels.level_of.Statement.{statement}
 use Rattle.distances.proofs.levels.level_of.Tie as tie
 
 abbrev Inv-loop : tie.InvT-loop
-Inv-loop key large count level₀ k₀ level k = k ≤ count
+Inv-loop key floor large count level₀ k₀ level k = k ≤ count
 
 abbrev μ-loop : tie.MeasureT-loop
-μ-loop key large count level₀ k₀ level k = count - k
+μ-loop key floor large count level₀ k₀ level k = count - k
 
 pub level-of-spec : {M : Type 1} → statement M
 level-of-spec =
@@ -16,6 +16,7 @@ level-of-spec =
     (tie.spec
     Inv-loop
     μ-loop
+    (λ c. search needs)
     (λ c. search needs)
     (λ c. search needs)
     (λ c. search needs)

@@ -5,10 +5,10 @@ use Rattle.distances.proofs.levels.points_above.Statement.{statement}
 use Rattle.distances.proofs.levels.points_above.Tie as tie
 
 abbrev Inv-loop : tie.InvT-loop
-Inv-loop n key large count apart points₀ k₀ points k = k ≤ count
+Inv-loop n key floor large count apart points₀ k₀ points k = k ≤ count
 
 abbrev μ-loop : tie.MeasureT-loop
-μ-loop n key large count apart points₀ k₀ points k = count - k
+μ-loop n key floor large count apart points₀ k₀ points k = count - k
 
 pub points-above-spec : {M : Type 1} → statement M
 points-above-spec =
@@ -16,6 +16,8 @@ points-above-spec =
     (tie.spec
     Inv-loop
     μ-loop
+    (λ c. search needs)
+    (λ c. search needs)
     (λ c. search needs)
     (λ c. search needs)
     (λ c. search needs)

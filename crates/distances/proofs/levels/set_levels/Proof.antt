@@ -8,10 +8,10 @@ use Rattle.distances.proofs.levels.set_levels.Statement.{statement}
 use Rattle.distances.proofs.levels.set_levels.Tie as tie
 
 abbrev Inv-loop : tie.InvT-loop
-Inv-loop large count levels₀ k₀ levels k = (k ≤ count) × (length levels ≡ length levels₀)
+Inv-loop large count floor levels₀ k₀ levels k = (k ≤ count) × (length levels ≡ length levels₀)
 
 abbrev μ-loop : tie.MeasureT-loop
-μ-loop large count levels₀ k₀ levels k = count - k
+μ-loop large count floor levels₀ k₀ levels k = count - k
 
 pub set-levels-spec : {M : Type 1} → statement M
 set-levels-spec =

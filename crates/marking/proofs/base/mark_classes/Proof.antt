@@ -8,16 +8,17 @@ use Rattle.marking.proofs.base.mark_classes.Statement.{statement}
 use Rattle.marking.proofs.base.mark_classes.Tie as tie
 
 abbrev Inv-loop : tie.InvT-loop
-Inv-loop n classes heights apart pairs₀ i₀ pairs i = Marking n n i (λ k. Upto n (ClassPair n apart classes heights k)) pairs₀ pairs
+Inv-loop n points heights apart class-first class-next pairs₀ i₀ pairs i = Marking n n i (λ k. Upto n (ClassPair n apart points heights k)) pairs₀ pairs
 
 abbrev μ-loop : tie.MeasureT-loop
-μ-loop n classes heights apart pairs₀ i₀ pairs i = n - i
+μ-loop n points heights apart class-first class-next pairs₀ i₀ pairs i = n - i
 
 mark-classes-of-requires : tie.Need-mark-classes-of-requires Inv-loop μ-loop
-mark-classes-of-requires c κs = let p = c .before .before .before .before .before .before .before .pre in (p .0, (c .before .loop-test .taken, (p .1 .0, room-kept (c .before .before .before .before .before .before .before .args .n) (c .before .before .loop .inv .marks) (p .1 .1))))
+mark-classes-of-requires c κs = let s = c .before .before .before .before .before .before .before .before .before in
+    (s .pre .0, (s .pre .1 .0, (c .before .loop-test .taken, (s .pre .1 .1 .0, room-kept (s .args .n) (c .before .before .loop .inv .marks) (s .pre .1 .1 .1)))))
 
 returns : tie.Need-returns Inv-loop μ-loop
-returns c = let s = c .before .before .before .before .before .before .args in all-classes (s .n) (now (s .apart)) (now (s .points)) (now (s .heights)) (marking-done (c .loop-test .left) (c .before .loop .inv))
+returns c = let s = c .before .before .before .before .before .before .before .before .args in all-classes (s .n) (now (s .apart)) (now (s .points)) (now (s .heights)) (marking-done (c .loop-test .left) (c .before .loop .inv))
 
 pub mark-classes-spec : {M : Type 1} → statement M
 mark-classes-spec =
@@ -25,7 +26,7 @@ mark-classes-spec =
     (tie.spec
     Inv-loop
     μ-loop
-    (λ c. marking-start (now (c .before .before .before .before .args .pairs)))
+    (λ c. marking-start (now (c .before .before .before .before .before .before .args .pairs)))
     mark-classes-of-requires
     (λ c. omega arith)
     (λ c. omega arith)
