@@ -1,4 +1,4 @@
-//! The proved solver beside the second solver, in one run: the time of each on sets of 33 families and its ratio, how the time of each
+//! The proved solver beside the second solver, in one run: the time of each on sets of 35 families and its ratio, how the time of each
 //! grows from 128 to 256 to 512 terms, for a whole solve and for the verdict alone; contradictory full sets with blame and without,
 //! beside one verdict on them; and both readers on full texts. A family's time is the mean over 8 sets, those of a random family made from
 //! different seeds.
@@ -116,6 +116,8 @@ fn families() {
     family("mixed 2, sparse", |r, size| mixed(r, size, 2, size * size / 8, size / 16));
     family("mixed 4, narrow", |r, size| mixed(r, size, 4, size / 8, size / 16));
     family("mixed 6, narrow", |r, size| mixed(r, size, 6, size / 8, size / 16));
+    family("mixed 16, narrow", |r, size| mixed(r, size, 16, size / 8, size / 16));
+    family("mixed 24, narrow", |r, size| mixed(r, size, 24, size / 8, size / 16));
     family("mixed 2, wide", |r, size| mixed(r, size, 2, 1 << 20, size / 16));
     family("mixed 2, narrow", |r, size| mixed(r, size, 2, size / 8, size / 16));
     println!();
