@@ -1,4 +1,3 @@
--- The pair table over columns of places: inverse dereferencing (Settle), bits from those of homes (Expand) and the table (Table).
-pub mod Expand
+-- The pair table over columns of places: inverse dereferencing (Settle) and the table (Table).
 pub mod Settle
 pub mod Table

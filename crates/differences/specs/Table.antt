@@ -19,7 +19,7 @@ use Rattle.points.specs.Places.{class, height, AtEither, Column, Terms}
 use Rattle.marking.specs.Classes.{classesDiffer, Listed, ListedPair, otherHeight, placesDiffer, PointsDiffer, Sides, sidesDiffer, other-moved, other-parts, parts-other}
 use Rattle.marking.specs.Known.{Moving, Uniform, either-moving, uniform-adds}
 use Rattle.differences.specs.Settle.{Done, HoldsIn, InverseOf, Setting, setting, Settled, one-class, apart-classes, moved}
-use Rattle.differences.specs.Expand.{Expanded}
+use Rattle.expansion.specs.Expand.{Expanded, HomeColumns}
 
 pub zeros-room : (n : ℕ) (old l : List ℕ) → l ≡ zeros (length old) → Room n old → Room n l
 zeros-room n old l e h = rw e (omega (arith, length-replicate {A = ℕ} (length old) 0))
@@ -136,7 +136,7 @@ module _ (n m : ℕ) (classes heights homes points reads readHeights leads leftC
     differ-home i j hi hj e =
         (rw (at-home i hi) (terms .inside i hi), (rw (at-home j hj) (terms .inside j hj), rw (at-home i hi, at-home j hj, H .height-same i hi, H .height-same j hj) e))
 
-    module _ {size : ℕ} {base old new : List ℕ} (B : Based n m points heights leftClasses leftHeights rightClasses rightHeights apart size base) (d : Done S leads r base old) (x : Expanded n homes old new) where
+    module _ {size : ℕ} {base old : List ℕ} (B : Based n m points heights leftClasses leftHeights rightClasses rightHeights apart size base) (d : Done S leads r base old) where
       abbrev a : Adds n (PointsDiffer n apart points heights) (zeros size) (B .middle)
       a = B .by-class
 
@@ -174,71 +174,75 @@ module _ (n m : ℕ) (classes heights homes points reads readHeights leads leftC
           (λ k hk hl. both-true _ _ (lt-ltb _ _ hl) (lt-ltb _ _ (sides k hk .inside hl))) i j hi hj e) in
           (ltb-true _ _ (s .0), ltb-true _ _ (s .1))
 
-      -- a bit is set where that of the homes is
-      home-bit : (i j : ℕ) → i < n → j < n → isSet new (i * n + j) ≡ true → isSet old (home homes i * n + home homes j) ≡ true
-      home-bit i j hi hj e =
-          ⊎-elim
-          (λ o. let c = have-classes i j hi hj o in rw (is-home i hi (c .0), is-home j hj (c .1)) o)
-          (λ g. g)
-          (bit-cases n (λ u v. isSet old (home homes u * n + home homes v) ≡ true) x i j hj e)
+      pub home-columns : HomeColumns n homes old
+      home-columns = record { column = λ i j hi hj e. is-home j hj (have-classes i j hi hj e .1) }
 
-      by-classes : (i j : ℕ) → i < n → j < n → placesDiffer n apart classes heights i j ≡ true → isSet new (i * n + j) ≡ true
-      by-classes i j hi hj e =
-          let k = home homes i * n + home homes j in
-          x .added i j hi hj (d .grows .kept k (b .kept k (a .added (home homes i) (home homes j) (H .below i hi) (H .below j hj) (differ-home i j hi hj e))))
+      module _ {new : List ℕ} (x : Expanded n homes old new) where
+        -- a bit is set where that of the homes is
+        home-bit : (i j : ℕ) → i < n → j < n → isSet new (i * n + j) ≡ true → isSet old (home homes i * n + home homes j) ≡ true
+        home-bit i j hi hj e =
+            ⊎-elim
+            (λ o. let c = have-classes i j hi hj o in rw (is-home i hi (c .0), is-home j hj (c .1)) o)
+            (λ g. g)
+            (bit-cases n (λ u v. isSet old (home homes u * n + home homes v) ≡ true) x i j hj e)
 
-      by-side : (k : ℕ) → k < m → class leftClasses k < n → (i j : ℕ) → i < n → j < n → Listed n classes heights leftClasses leftHeights rightClasses rightHeights k i j → (o : Bool) → sidesDiffer n classes heights leftClasses leftHeights rightClasses rightHeights k ≡ o → isSet new (i * n + j) ≡ true
-      unfolding classesDiffer
-      by-side k hk hl i j hi hj l false o =
-          x .added i j hi hj (d .grows .kept (home homes i * n + home homes j) (b .added (home homes i) (home homes j) (H .below i hi) (H .below j hj) (k, hk, (hl, (o, at-homes i j hi hj l)))))
-      by-side k hk hl i j hi hj l true o =
-          by-classes i j hi hj (or-second (isSet apart (class classes i * n + class classes j)) (otherHeight (class classes i) (height heights i) (class classes j) (height heights j)) (other-moved i j o l))
+        by-classes : (i j : ℕ) → i < n → j < n → placesDiffer n apart classes heights i j ≡ true → isSet new (i * n + j) ≡ true
+        by-classes i j hi hj e =
+            let k = home homes i * n + home homes j in
+            x .added i j hi hj (d .grows .kept k (b .kept k (a .added (home homes i) (home homes j) (H .below i hi) (H .below j hj) (differ-home i j hi hj e))))
 
-      -- from the leads of two dereferences to themselves
-      led : (u v : ℕ) → (g : Led homes reads readHeights leads r u) → (h : Led homes reads readHeights leads r v) → Settled S old (lead leads (g .at)) (lead leads (h .at)) → Settled (plain n classes heights reads readHeights apart) new u v
-      led u v g h (one-class e) = one-class (sym (g .class-same) ∙ e ∙ h .class-same)
-      led u v g h (apart-classes e) = apart-classes (rw (g .class-same, h .class-same) at e)
-      led u v g h (moved k) = moved (record {
-        bits = λ i j hi hj w. x .added i j hi hj (k .bits (home homes i) (home homes j) (H .below i hi) (H .below j hj)
-            (rw (g .class-same, h .class-same, g .height-same, h .height-same) (at-homes i j hi hj w)));
-      })
+        by-side : (k : ℕ) → k < m → class leftClasses k < n → (i j : ℕ) → i < n → j < n → Listed n classes heights leftClasses leftHeights rightClasses rightHeights k i j → (o : Bool) → sidesDiffer n classes heights leftClasses leftHeights rightClasses rightHeights k ≡ o → isSet new (i * n + j) ≡ true
+        unfolding classesDiffer
+        by-side k hk hl i j hi hj l false o =
+            x .added i j hi hj (d .grows .kept (home homes i * n + home homes j) (b .added (home homes i) (home homes j) (H .below i hi) (H .below j hj) (k, hk, (hl, (o, at-homes i j hi hj l)))))
+        by-side k hk hl i j hi hj l true o =
+            by-classes i j hi hj (or-second (isSet apart (class classes i * n + class classes j)) (otherHeight (class classes i) (height heights i) (class classes j) (height heights j)) (other-moved i j o l))
 
-      row : (u v : ℕ) → u < n → v < n → class reads u < n → class reads v < n → (g : Led homes reads readHeights leads r u) → (h : Led homes reads readHeights leads r v) → h .at < g .at → isSet new (u * n + v) ≡ true → Settled (plain n classes heights reads readHeights apart) new u v
-      row u v hu hv lu lv g h o e =
-          led u v g h
-          (d .closed .rows (g .at) (g .inside) .row (h .at) o .settled
-          (record { left = L .below (g .at) (g .inside); right = L .below (h .at) (h .inside); left-reads = rw (g .class-same) lu; right-reads = rw (h .class-same) lv })
-          (rw (g .home-same, h .home-same) (home-bit u v hu hv e)))
+        -- from the leads of two dereferences to themselves
+        led : (u v : ℕ) → (g : Led homes reads readHeights leads r u) → (h : Led homes reads readHeights leads r v) → Settled S old (lead leads (g .at)) (lead leads (h .at)) → Settled (plain n classes heights reads readHeights apart) new u v
+        led u v g h (one-class e) = one-class (sym (g .class-same) ∙ e ∙ h .class-same)
+        led u v g h (apart-classes e) = apart-classes (rw (g .class-same, h .class-same) at e)
+        led u v g h (moved k) = moved (record {
+          bits = λ i j hi hj w. x .added i j hi hj (k .bits (home homes i) (home homes j) (H .below i hi) (H .below j hj)
+              (rw (g .class-same, h .class-same, g .height-same, h .height-same) (at-homes i j hi hj w)));
+        })
 
-      in-order : (u v : ℕ) → u < n → v < n → class reads u < n → class reads v < n → isSet new (u * n + v) ≡ true → isSet new (v * n + u) ≡ true → Settled (plain n classes heights reads readHeights apart) new u v ⊎ Settled (plain n classes heights reads readHeights apart) new v u
-      in-order u v hu hv lu lv e f = go (L .covers u hu lu) (L .covers v hv lv)
-        where
-          go : Led homes reads readHeights leads r u → Led homes reads readHeights leads r v → Settled (plain n classes heights reads readHeights apart) new u v ⊎ Settled (plain n classes heights reads readHeights apart) new v u
-          go g h =
-              ⊎-elim (λ o. inl (row u v hu hv lu lv g h o e))
-              (λ o.
-              ⊎-elim
-              (λ (s : h .at ≡ g .at). inl (one-class (sym (g .class-same) ∙ ap (λ (k : ℕ). class reads (lead leads k)) (sym s) ∙ h .class-same)))
-              (λ (w : h .at ≢ g .at). inr (row v u hv hu lv lu h g (omega arith) f))
-              (same-or-not (h .at) (g .at)))
-              (less-or-not (h .at) (g .at))
+        row : (u v : ℕ) → u < n → v < n → class reads u < n → class reads v < n → (g : Led homes reads readHeights leads r u) → (h : Led homes reads readHeights leads r v) → h .at < g .at → isSet new (u * n + v) ≡ true → Settled (plain n classes heights reads readHeights apart) new u v
+        row u v hu hv lu lv g h o e =
+            led u v g h
+            (d .closed .rows (g .at) (g .inside) .row (h .at) o .settled
+            (record { left = L .below (g .at) (g .inside); right = L .below (h .at) (h .inside); left-reads = rw (g .class-same) lu; right-reads = rw (h .class-same) lv })
+            (rw (g .home-same, h .home-same) (home-bit u v hu hv e)))
 
-      pub table-told : Told n m classes heights reads readHeights leftClasses leftHeights rightClasses rightHeights apart size new
-      table-told = record {
-        long = x .long ∙ d .grows .long ∙ b .long ∙ a .long ∙ length-replicate {A = ℕ} size 0;
-        bytes = x .bytes (d .grows .bytes (b .bytes (a .bytes (zero-bytes size))));
-        unused = λ k h e. no-bits size k (past-kept n (PointsDiffer n apart points heights) a k h (past-kept n (Upto m E) b k h (d .grows .past k h (past-kept n (λ u v. isSet old (home homes u * n + home homes v) ≡ true) x k h e))));
-        classes-set = by-classes;
-        listed-set = λ k hk hl i j hi hj l. by-side k hk hl i j hi hj l (sidesDiffer n classes heights leftClasses leftHeights rightClasses rightHeights k) refl;
-        closed = in-order;
-        only = λ D I c l i j hi hj e.
-            rw (← (at-home i hi), ← (at-home j hj), ← (H .height-same i hi), ← (H .height-same j hj))
-            (holds D
-            (record {
-              mirrored = I .mirrored;
-              moved = I .moved;
-              drawn = λ {x = u} {y = v} R g. I .drawn u v (R .left) (R .right) (R .left-reads) (R .right-reads) (rw (at-home u (R .left), at-home v (R .right), H .height-same u (R .left), H .height-same v (R .right)) at g);
-            })
-            (λ u v hu hv (g, (h, w)). rw (own-class u hu g, own-class v hv h) (c u v hu hv (rw (own-class u hu g, own-class v hv h) at w)))
-            l (home homes i) (home homes j) (H .below i hi) (H .below j hj) (home-bit i j hi hj e));
-      }
+        in-order : (u v : ℕ) → u < n → v < n → class reads u < n → class reads v < n → isSet new (u * n + v) ≡ true → isSet new (v * n + u) ≡ true → Settled (plain n classes heights reads readHeights apart) new u v ⊎ Settled (plain n classes heights reads readHeights apart) new v u
+        in-order u v hu hv lu lv e f = go (L .covers u hu lu) (L .covers v hv lv)
+          where
+            go : Led homes reads readHeights leads r u → Led homes reads readHeights leads r v → Settled (plain n classes heights reads readHeights apart) new u v ⊎ Settled (plain n classes heights reads readHeights apart) new v u
+            go g h =
+                ⊎-elim (λ o. inl (row u v hu hv lu lv g h o e))
+                (λ o.
+                ⊎-elim
+                (λ (s : h .at ≡ g .at). inl (one-class (sym (g .class-same) ∙ ap (λ (k : ℕ). class reads (lead leads k)) (sym s) ∙ h .class-same)))
+                (λ (w : h .at ≢ g .at). inr (row v u hv hu lv lu h g (omega arith) f))
+                (same-or-not (h .at) (g .at)))
+                (less-or-not (h .at) (g .at))
+
+        pub table-told : Told n m classes heights reads readHeights leftClasses leftHeights rightClasses rightHeights apart size new
+        table-told = record {
+          long = x .long ∙ d .grows .long ∙ b .long ∙ a .long ∙ length-replicate {A = ℕ} size 0;
+          bytes = x .bytes (d .grows .bytes (b .bytes (a .bytes (zero-bytes size))));
+          unused = λ k h e. no-bits size k (past-kept n (PointsDiffer n apart points heights) a k h (past-kept n (Upto m E) b k h (d .grows .past k h (past-kept n (λ u v. isSet old (home homes u * n + home homes v) ≡ true) x k h e))));
+          classes-set = by-classes;
+          listed-set = λ k hk hl i j hi hj l. by-side k hk hl i j hi hj l (sidesDiffer n classes heights leftClasses leftHeights rightClasses rightHeights k) refl;
+          closed = in-order;
+          only = λ D I c l i j hi hj e.
+              rw (← (at-home i hi), ← (at-home j hj), ← (H .height-same i hi), ← (H .height-same j hj))
+              (holds D
+              (record {
+                mirrored = I .mirrored;
+                moved = I .moved;
+                drawn = λ {x = u} {y = v} R g. I .drawn u v (R .left) (R .right) (R .left-reads) (R .right-reads) (rw (at-home u (R .left), at-home v (R .right), H .height-same u (R .left), H .height-same v (R .right)) at g);
+              })
+              (λ u v hu hv (g, (h, w)). rw (own-class u hu g, own-class v hv h) (c u v hu hv (rw (own-class u hu g, own-class v hv h) at w)))
+              l (home homes i) (home homes j) (H .below i hi) (H .below j hj) (home-bit i j hi hj e));
+        }

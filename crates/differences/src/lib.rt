@@ -1,8 +1,7 @@
 // The pair table of an accepted set, by the places of its terms, of what its dereferences read and of the sides of its disequalities.
-mod expanding;
 mod settling;
 
-use expanding::expand;
+use expansion::expand;
 use marking::base::mark_classes;
 use marking::base::mark_listed;
 use marking::notes::Notes;

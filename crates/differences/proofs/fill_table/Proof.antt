@@ -2,8 +2,8 @@
 use native.Mathlib.Omega.{arith}
 use denote.Ref.{now}
 use borrow.Author.Needs.{needs}
-use Rattle.differences.specs.Expand.{homes-own}
-use Rattle.differences.specs.Table.{base-uniform, room-based, table-told}
+use Rattle.expansion.specs.Expand.{homes-own}
+use Rattle.differences.specs.Table.{base-uniform, home-columns, room-based, table-told}
 use Rattle.differences.proofs.fill_table.Statement.{statement}
 use Rattle.differences.proofs.fill_table.Tie as tie
 
@@ -40,10 +40,14 @@ expand-requires c κs = let s = c .before .before .before .before .before .befor
       p .0 .0 .reading .few,
       (
         homes-own (p .1 .0 .homes-are),
-        omega (
-          arith,
-          c .before .before .before .settle .ensures .grows .long,
-          room-based (s .args .n) (s .args .m) (now (s .args .points)) (now (s .args .heights)) (now (s .args .left-classes)) (now (s .args .left-heights)) (now (s .args .right-classes)) (now (s .args .right-heights)) (now (s .args .apart)) (now (s .args .pairs)) (c .before .before .before .before .before .before .before .before .mark-base .ensures) (p .0 .1),
+        (
+          home-columns (s .args .n) (s .args .m) (now (s .args .classes)) (now (s .args .heights)) (now (s .args .homes)) (now (s .args .points)) (now (s .args .reads)) (now (s .args .read-heights)) (now (s .args .leads)) (now (s .args .left-classes)) (now (s .args .left-heights)) (now (s .args .right-classes)) (now (s .args .right-heights)) (now (s .args .apart))
+              (p .0 .0 .terms) (p .0 .0 .sides) (p .1 .0 .homes-are) (p .1 .0 .points-are) (p .1 .0 .leads-are) (c .before .before .before .before .before .before .before .before .mark-base .ensures) (c .before .before .before .settle .ensures),
+          omega (
+            arith,
+            c .before .before .before .settle .ensures .grows .long,
+            room-based (s .args .n) (s .args .m) (now (s .args .points)) (now (s .args .heights)) (now (s .args .left-classes)) (now (s .args .left-heights)) (now (s .args .right-classes)) (now (s .args .right-heights)) (now (s .args .apart)) (now (s .args .pairs)) (c .before .before .before .before .before .before .before .before .mark-base .ensures) (p .0 .1),
+          ),
         ),
       ),
     )

@@ -1,13 +1,13 @@
--- `differences::expanding::all_own` meets its contract. The invariant: the first t terms are.
+-- `expansion::all_own` meets its contract. The invariant: the first t terms are.
 use Prim.Native.Nat.{_-_, _≤_}
 use mathlib.Core.Path.{refl}
 use native.Mathlib.Omega.{arith}
 use denote.Ref.{now}
 use borrow.Author.Needs.{needs}
 use Rattle.lists.specs.Booleans.{false-true}
-use Rattle.differences.specs.Expand.{AllOwn, own-more, own-none}
-use Rattle.differences.proofs.expanding.all_own.Statement.{statement}
-use Rattle.differences.proofs.expanding.all_own.Tie as tie
+use Rattle.expansion.specs.Expand.{AllOwn, own-more, own-none}
+use Rattle.expansion.proofs.all_own.Statement.{statement}
+use Rattle.expansion.proofs.all_own.Tie as tie
 
 abbrev Inv-loop : tie.InvT-loop
 Inv-loop n homes t₀ t = (t ≤ n) × AllOwn t homes

@@ -1,0 +1,276 @@
+-- A pair table over homes, expanded to all terms: the bit of each pair is set whose homes' bit is set.
+use Prim.Native.Nat.{ℕ, _+_, _*_, _<_, _≤_}
+use mathlib.Core.Path.{_≡_, refl, _∙_}
+use mathlib.Core.Logic.{_≢_, _⊎_, inl, inr, ⊎-elim}
+use mathlib.Core.Bool.{Bool, true, false, _||_}
+use mathlib.Core.List.{List}
+use native.Mathlib.Omega.{arith}
+use lib.Dec.{eqb}
+use lib.ListN.{length}
+use borrow.Author.Tests.{eq-eqb}
+use Rattle.lists.specs.Filled.{same-or-not}
+use Rattle.pairbits.specs.Bits.{isSet}
+use Rattle.points.specs.Homes.{home, Homes}
+use Rattle.buckets.specs.Buckets.{less-or-not}
+use Rattle.words.specs.Words.{inMask, NextCommon, Put}
+use Rattle.marking.specs.Marks.{Adds, adds-already, adds-as, adds-none, adds-then, bit-cases, One, Upto}
+
+-- homes of n terms: each is its own home
+pub record Own (n : ℕ) (homes : List ℕ) : Type 0 where
+  pub long : n ≤ length homes
+  pub below : (t : ℕ) → t < n → home homes t < n
+  pub own : (t : ℕ) → t < n → home homes (home homes t) ≡ home homes t
+
+pub homes-own : {n : ℕ} {classes heights homes : List ℕ} → Homes n classes heights homes → Own n homes
+homes-own H = record { long = H .long; below = H .below; own = H .own }
+
+last-or-before : (k u : ℕ) → u < k + 1 → (u < k) ⊎ (u ≡ k)
+last-or-before k u h = ⊎-elim (λ (e : u ≡ k). inr e) (λ (m : u ≢ k). inl (omega arith)) (same-or-not u k)
+
+-- each term is its own home
+pub record AllOwn (n : ℕ) (homes : List ℕ) : Type 0 where
+  pub own : (t : ℕ) → t < n → home homes t ≡ t
+
+pub own-none : (homes : List ℕ) → AllOwn 0 homes
+own-none homes = record { own = λ t h. absurd (omega arith) }
+
+pub own-more : {k : ℕ} {homes : List ℕ} → home homes k ≡ k → AllOwn k homes → AllOwn (k + 1) homes
+own-more {k} {homes} e a = record { own = λ t h. ⊎-elim (λ (l : t < k). a .own t l) (λ (s : t ≡ k). rw s e) (last-or-before k t h) }
+
+-- the bit of the homes of i and j is set
+abbrev pub HomesSet : (n : ℕ) (homes table : List ℕ) (i j : ℕ) → Type 0
+HomesSet n homes table i j = isSet table (home homes i * n + home homes j) ≡ true
+
+-- `new` is `old` with the bit of each pair set whose homes' bit is set
+abbrev pub Expanded : (n : ℕ) (homes old new : List ℕ) → Type 0
+Expanded n homes old new = Adds n (λ i j. isSet old (home homes i * n + home homes j) ≡ true) old new
+
+-- the same for the pairs in S
+abbrev pub ExpandedIn : (n : ℕ) (homes : List ℕ) (S : ℕ → ℕ → Type 0) (old new : List ℕ) → Type 0
+ExpandedIn n homes S old new = Adds n (λ i j. S i j × HomesSet n homes old i j) old new
+
+-- the bits of a table are in the columns of homes
+pub record HomeColumns (n : ℕ) (homes table : List ℕ) : Type 0 where
+  pub column : (i j : ℕ) → i < n → j < n → isSet table (i * n + j) ≡ true → home homes j ≡ j
+
+-- the mask has the homes of the first k terms that are not their own
+pub record Hosts (k : ℕ) (homes mask : List ℕ) : Type 0 where
+  pub long : length mask ≡ 8
+  pub host : (t : ℕ) → t < k → home homes t ≢ t → inMask mask (home homes t) ≡ true
+
+pub hosts-none : {homes mask : List ℕ} → length mask ≡ 8 → Hosts 0 homes mask
+hosts-none e = record { long = e; host = λ t h. absurd (omega arith) }
+
+pub hosts-skip : {k : ℕ} {homes mask : List ℕ} → home homes k ≡ k → Hosts k homes mask → Hosts (k + 1) homes mask
+hosts-skip {k} {homes} e H = record { long = H .long; host = λ t h m. ⊎-elim (λ (l : t < k). H .host t l m) (λ (s : t ≡ k). absurd (m (rw s e))) (last-or-before k t h) }
+
+pub hosts-more : {k : ℕ} {homes mask new : List ℕ} → Put mask (home homes k) new → Hosts k homes mask → Hosts (k + 1) homes new
+hosts-more {k} {homes} {mask} {new} P H = record {
+  long = P .long ∙ H .long;
+  host = λ t h m.
+      ⊎-elim
+      (λ (l : t < k). P .bits (home homes t) ∙ rw (H .host t l m))
+      (λ (s : t ≡ k). rw s (P .bits (home homes k) ∙ rw (eq-eqb (home homes k) (home homes k) refl) (or-all (inMask mask (home homes k)))))
+      (last-or-before k t h);
+}
+  where
+    or-all : (b : Bool) → (b || true) ≡ true
+    or-all true = refl
+    or-all false = refl
+
+pub hosts-done : {n k : ℕ} {homes mask : List ℕ} → n ≤ k → Hosts k homes mask → Hosts n homes mask
+hosts-done h H = record { long = H .long; host = λ t l. H .host t (omega arith) }
+
+-- the pair (i, j), where v is the home of j
+abbrev pub GuestPair : List ℕ → ℕ → ℕ → ℕ → ℕ → ℕ → Type 0
+GuestPair homes i v j x y = (home homes j ≡ v) × One i j x y
+
+-- the pairs of term i; those with the terms whose home is before v; those of the homes before k; those of the other terms before k
+abbrev pub Row : ℕ → ℕ → ℕ → Type 0
+Row i x y = x ≡ i
+
+abbrev pub RowBelow : List ℕ → ℕ → ℕ → ℕ → ℕ → Type 0
+RowBelow homes i v x y = (x ≡ i) × (home homes y < v)
+
+abbrev pub HomeRows : List ℕ → ℕ → ℕ → ℕ → Type 0
+HomeRows homes k x y = (x < k) × (home homes x ≡ x)
+
+abbrev pub GuestRows : List ℕ → ℕ → ℕ → ℕ → Type 0
+GuestRows homes k x y = (x < k) × (home homes x ≢ x)
+
+-- the pairs of i whose bits are set in row h
+abbrev pub CopyPair : ℕ → ℕ → ℕ → List ℕ → ℕ → ℕ → Type 0
+CopyPair n h i table x y = (x ≡ i) × (isSet table (h * n + y) ≡ true)
+
+-- in the rows of homes, the bit of each term is that of its home
+pub record Full (n : ℕ) (homes table : List ℕ) : Type 0 where
+  pub there : (h y : ℕ) → h < n → y < n → home homes h ≡ h → isSet table (h * n + y) ≡ true → isSet table (h * n + home homes y) ≡ true
+  pub back : (h y : ℕ) → h < n → y < n → home homes h ≡ h → isSet table (h * n + home homes y) ≡ true → isSet table (h * n + y) ≡ true
+
+module _ (n : ℕ) (homes : List ℕ) where
+  -- nothing to do where each term is its own home
+  pub all-own : (l : List ℕ) → AllOwn n homes → Expanded n homes l l
+  all-own l a = adds-already n (HomesSet n homes l) l (λ i j hi hj w. rw (a .own i hi, a .own j hj) at w)
+
+  nothing : (S : ℕ → ℕ → Type 0) (l : List ℕ) → ((x y : ℕ) → S x y → ⊥) → ExpandedIn n homes S l l
+  nothing S l none = adds-none n (λ x y. S x y × HomesSet n homes l x y) l (λ x y d. none x y (d .0))
+
+  same-pairs : (S T : ℕ → ℕ → Type 0) {old new : List ℕ} → ((x y : ℕ) → x < n → y < n → S x y → T x y) → ((x y : ℕ) → x < n → y < n → T x y → S x y) → ExpandedIn n homes S old new → ExpandedIn n homes T old new
+  same-pairs S T {old} f g a =
+      adds-as n (λ x y. S x y × HomesSet n homes old x y) (λ x y. T x y × HomesSet n homes old x y) a
+      (λ x y hx hy d. (f x y hx hy (d .0), d .1))
+      (λ x y hx hy d. (g x y hx hy (d .0), d .1))
+
+  -- a loop along the row of home i: v is the next home whose bit is set, and that is the home of other terms
+  pub record RowLoop (i v : ℕ) (old new : List ℕ) : Type 0 where
+    pub done : ExpandedIn n homes (RowBelow homes i v) old new
+    pub hit : v < n → isSet new (i * n + v) ≡ true
+    pub few : v ≤ n + 64
+
+  module _ (O : Own n homes) where
+    -- the bits of homes stay as they were
+    homes-kept : (S : ℕ → ℕ → Type 0) {old new : List ℕ} → ExpandedIn n homes S old new → (i j : ℕ) → i < n → j < n → HomesSet n homes new i j → HomesSet n homes old i j
+    homes-kept S {old} {new} a i j hi hj w =
+        ⊎-elim (λ e. e)
+        (λ (d : S (home homes i) (home homes j) × HomesSet n homes old (home homes i) (home homes j)). rw (O .own i hi, O .own j hj) at (d .1))
+        (bit-cases n (λ x y. S x y × HomesSet n homes old x y) a (home homes i) (home homes j) (O .below j hj) w)
+
+    -- one after the other
+    expanded-then :
+        (S T U : ℕ → ℕ → Type 0) {old mid new : List ℕ} →
+        ((x y : ℕ) → U x y → S x y ⊎ T x y) →
+        ((x y : ℕ) → S x y → U x y) →
+        ((x y : ℕ) → T x y → U x y) →
+        ExpandedIn n homes S old mid →
+        ExpandedIn n homes T mid new →
+        ExpandedIn n homes U old new
+    expanded-then S T U {old} {mid} {new} split left right a b =
+        adds-then n (λ x y. S x y × HomesSet n homes old x y) (λ x y. T x y × HomesSet n homes mid x y) (λ x y. U x y × HomesSet n homes old x y) a b
+        (λ x y hx hy d. ⊎-elim (λ s. inl (s, d .1)) (λ t. inr (t, a .kept (home homes x * n + home homes y) (d .1))) (split x y (d .0)))
+        (λ x y hx hy d. (left x y (d .0), d .1))
+        (λ x y hx hy d. (right x y (d .0), homes-kept S a x y hx hy (d .1)))
+
+    module _ (i : ℕ) (hi : i < n) (own : home homes i ≡ i) {mask : List ℕ} (H : Hosts n homes mask) where
+      jump : (v r : ℕ) {old new : List ℕ} → ExpandedIn n homes (RowBelow homes i v) old new → NextCommon n (i * n) new mask v r → ExpandedIn n homes (RowBelow homes i r) old new
+      jump v r {old} {new} a N =
+          expanded-then (RowBelow homes i v) Between (RowBelow homes i r)
+          (λ x y d. ⊎-elim (λ l. inl (d .0, l)) (λ g. inr (d .0, (g, d .1))) (less-or-not (home homes y) v))
+          (λ x y d. let h = N .after in (d .0, omega (arith, d .1)))
+          (λ x y d. (d .0, d .1 .1))
+          a
+          (adds-already n (λ x y. Between x y × HomesSet n homes new x y) new (λ x y hx hy d. rw (d .0 .0) (set y hy (d .0 .1 .0) (d .0 .1 .1) (rw (d .0 .0, own) at (d .1)))))
+        where
+          Between : ℕ → ℕ → Type 0
+          Between x y = (x ≡ i) × ((v ≤ home homes y) × (home homes y < r))
+
+          set : (y : ℕ) → y < n → v ≤ home homes y → home homes y < r → isSet new (i * n + home homes y) ≡ true → isSet new (i * n + y) ≡ true
+          set y hy g l w =
+              ⊎-elim
+              (λ (e : home homes y ≡ y). rw e at w)
+              (λ (m : home homes y ≢ y). absurd (N .none (home homes y) g l w (H .host y hy m)))
+              (same-or-not (home homes y) y)
+
+      pub row-first : (l : List ℕ) {r : ℕ} → NextCommon n (i * n) l mask 0 r → RowLoop i r l l
+      row-first l {r} N = record { done = jump 0 r (nothing (RowBelow homes i 0) l (λ x y d. let h = d .1 in omega arith)) N; hit = N .hit; few = N .few }
+
+      pub row-next : {v r : ℕ} {old mid new : List ℕ} → v < n → RowLoop i v old mid → Adds n (Upto n (GuestPair homes i v)) mid new → NextCommon n (i * n) new mask (v + 1) r → RowLoop i r old new
+      row-next {v} {r} {old} {mid} {new} hv L A N = record {
+        done = jump (v + 1) r
+            (expanded-then (RowBelow homes i v) There (RowBelow homes i (v + 1))
+            (λ x y d. ⊎-elim (λ l. inl (d .0, l)) (λ e. inr (d .0, e)) (last-or-before v (home homes y) (d .1)))
+            (λ x y d. (d .0, omega (arith, d .1)))
+            (λ x y d. (d .0, omega (arith, d .1)))
+            (L .done)
+            (adds-as n (Upto n (GuestPair homes i v)) (λ x y. There x y × HomesSet n homes mid x y) A
+            (λ x y hx hy (j, hj, (e, o)). let z : home homes y ≡ v = rw (o .1) e in ((o .0, z), rw (o .0, own, z) (L .hit hv)))
+            (λ x y hx hy d. (y, hy, (d .0 .1, (d .0 .0, refl))))))
+            N;
+        hit = N .hit;
+        few = N .few;
+      }
+        where
+          There : ℕ → ℕ → Type 0
+          There x y = (x ≡ i) × (home homes y ≡ v)
+
+      pub row-done : {v : ℕ} {old new : List ℕ} → n ≤ v → RowLoop i v old new → ExpandedIn n homes (Row i) old new
+      row-done {v} h L = same-pairs (RowBelow homes i v) (Row i) (λ x y hx hy d. d .0) (λ x y hx hy d. (d, omega (arith, O .below y hy))) (L .done)
+
+    -- the rows of homes
+    pub home-rows-start : (l : List ℕ) → ExpandedIn n homes (HomeRows homes 0) l l
+    home-rows-start l = nothing (HomeRows homes 0) l (λ x y d. let h = d .0 in omega arith)
+
+    pub home-rows-more : (k : ℕ) {old mid new : List ℕ} → home homes k ≡ k → ExpandedIn n homes (HomeRows homes k) old mid → ExpandedIn n homes (Row k) mid new → ExpandedIn n homes (HomeRows homes (k + 1)) old new
+    home-rows-more k e =
+        expanded-then (HomeRows homes k) (Row k) (HomeRows homes (k + 1))
+        (λ x y d. ⊎-elim (λ l. inl (l, d .1)) (λ s. inr s) (last-or-before k x (d .0)))
+        (λ x y d. (omega (arith, d .0), d .1))
+        (λ x y d. (omega (arith, d), rw d e))
+
+    pub home-rows-skip : (k : ℕ) {old new : List ℕ} → home homes k ≢ k → ExpandedIn n homes (HomeRows homes k) old new → ExpandedIn n homes (HomeRows homes (k + 1)) old new
+    home-rows-skip k m a =
+        same-pairs (HomeRows homes k) (HomeRows homes (k + 1))
+        (λ x y hx hy d. (omega (arith, d .0), d .1))
+        (λ x y hx hy d. (⊎-elim (λ l. l) (λ (s : x ≡ k). absurd (m (rw s at (d .1)))) (last-or-before k x (d .0)), d .1))
+        a
+
+    -- then those of the other terms
+    pub guests-start : (l : List ℕ) → ExpandedIn n homes (GuestRows homes 0) l l
+    guests-start l = nothing (GuestRows homes 0) l (λ x y d. let h = d .0 in omega arith)
+
+    pub guests-skip : (k : ℕ) {old new : List ℕ} → home homes k ≡ k → ExpandedIn n homes (GuestRows homes k) old new → ExpandedIn n homes (GuestRows homes (k + 1)) old new
+    guests-skip k e a =
+        same-pairs (GuestRows homes k) (GuestRows homes (k + 1))
+        (λ x y hx hy d. (omega (arith, d .0), d .1))
+        (λ x y hx hy d. (⊎-elim (λ l. l) (λ (s : x ≡ k). absurd (d .1 (rw s e))) (last-or-before k x (d .0)), d .1))
+        a
+
+    -- the row of term k copied from that of its home
+    pub guests-more :
+        (k : ℕ) {old mid new : List ℕ} → k < n → home homes k ≢ k → Full n homes old → ExpandedIn n homes (GuestRows homes k) old mid →
+        Adds n (CopyPair n (home homes k) k mid) mid new → ExpandedIn n homes (GuestRows homes (k + 1)) old new
+    guests-more k {old} {mid} {new} hk m F a b =
+        expanded-then (GuestRows homes k) (Row k) (GuestRows homes (k + 1))
+        (λ x y d. ⊎-elim (λ g. inl (g, d .1)) (λ s. inr s) (last-or-before k x (d .0)))
+        (λ x y d. (omega (arith, d .0), d .1))
+        (λ x y d. (omega (arith, d), (rw d m)))
+        a
+        (adds-as n (CopyPair n h k mid) (λ x y. Row k x y × HomesSet n homes mid x y) b
+        (λ x y hx hy d. (d .0, rw (d .0) (a .kept (h * n + home homes y) (F .there h y hh hy (O .own k hk) (was y hy (d .1))))))
+        (λ x y hx hy d. (d .0, a .kept (h * n + y) (F .back h y hh hy (O .own k hk) (was (home homes y) (O .below y hy) (rw (d .0) at (d .1)))))))
+      where
+        h : ℕ
+        h = home homes k
+
+        hh : h < n
+        hh = O .below k hk
+
+        -- the rows of homes are as they were
+        was : (y : ℕ) → y < n → isSet mid (h * n + y) ≡ true → isSet old (h * n + y) ≡ true
+        was y hy w = ⊎-elim (λ o. o) (λ d. absurd (d .0 .1 (O .own k hk))) (bit-cases n (λ x y. GuestRows homes k x y × HomesSet n homes old x y) a h y hy w)
+
+    pub guests-done : (k : ℕ) {old new : List ℕ} → n ≤ k → ExpandedIn n homes (GuestRows homes k) old new → ExpandedIn n homes (GuestRows homes n) old new
+    guests-done k h a = same-pairs (GuestRows homes k) (GuestRows homes n) (λ x y hx hy d. (hx, d .1)) (λ x y hx hy d. (omega arith, d .1)) a
+
+    pub home-rows-done : (k : ℕ) {old new : List ℕ} → n ≤ k → ExpandedIn n homes (HomeRows homes k) old new → ExpandedIn n homes (HomeRows homes n) old new
+    home-rows-done k h a = same-pairs (HomeRows homes k) (HomeRows homes n) (λ x y hx hy d. (hx, d .1)) (λ x y hx hy d. (omega arith, d .1)) a
+
+    -- the rows of homes, where bits were in the columns of homes
+    pub homes-full : {old new : List ℕ} → HomeColumns n homes old → ExpandedIn n homes (HomeRows homes n) old new → Full n homes new
+    homes-full {old} {new} C a = record { there = to; back = from }
+      where
+        to : (h y : ℕ) → h < n → y < n → home homes h ≡ h → isSet new (h * n + y) ≡ true → isSet new (h * n + home homes y) ≡ true
+        to h y hh hy e w =
+            ⊎-elim
+            (λ o. a .kept (h * n + home homes y) (rw (C .column h y hh hy o) o))
+            (λ d. a .kept (h * n + home homes y) (rw e at (d .1)))
+            (bit-cases n (λ x y. HomeRows homes n x y × HomesSet n homes old x y) a h y hy w)
+
+        from : (h y : ℕ) → h < n → y < n → home homes h ≡ h → isSet new (h * n + home homes y) ≡ true → isSet new (h * n + y) ≡ true
+        from h y hh hy e w = a .added h y hh hy ((hh, e), homes-kept (HomeRows homes n) a h y hh hy (rw e w))
+
+    pub expanded-both : {old mid new : List ℕ} → ExpandedIn n homes (HomeRows homes n) old mid → ExpandedIn n homes (GuestRows homes n) mid new → Expanded n homes old new
+    expanded-both {old} a b =
+        adds-as n (λ x y. (HomeRows homes n x y ⊎ GuestRows homes n x y) × HomesSet n homes old x y) (HomesSet n homes old)
+        (expanded-then (HomeRows homes n) (GuestRows homes n) (λ x y. HomeRows homes n x y ⊎ GuestRows homes n x y) (λ x y d. d) (λ x y d. inl d) (λ x y d. inr d) a b)
+        (λ x y hx hy d. d .1)
+        (λ x y hx hy w. (⊎-elim (λ (e : home homes x ≡ x). inl (hx, e)) (λ (m : home homes x ≢ x). inr (hx, m)) (same-or-not (home homes x) x), w))

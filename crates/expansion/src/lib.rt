@@ -1,0 +1,172 @@
+// The pair table of all terms, from the bits of their homes. Public for the crate `differences`.
+use buckets::chain;
+use marking::bits::set_pair;
+use points::chains::CLASSES;
+use points::places::index;
+use points::places::linked;
+use types::MOST;
+use types::TermNumber;
+use words::next_common;
+use words::or_word;
+use words::put;
+use words::word_at;
+ghost use mathlib.Core.Path.{_≡_};
+ghost use mathlib.Core.Bool.{true};
+ghost use mathlib.Core.Logic.{_≢_};
+ghost use Prim.Native.Nat.{_*_, _<_, _≤_};
+ghost use lib.ListN.{length};
+ghost use Rattle.buckets.specs.Buckets.{Chains};
+ghost use Rattle.lists.specs.Lent.{before, after};
+ghost use Rattle.tables.specs.Limits.{most};
+ghost use Rattle.points.specs.Homes.{home};
+ghost use Rattle.points.specs.Places.{classSlots};
+ghost use Rattle.marking.specs.Marks.{Adds, Inside, Room, Upto};
+ghost use Rattle.expansion.specs.Expand.{AllOwn, CopyPair, Expanded, ExpandedIn, Full, GuestPair, GuestRows, HomeColumns, HomeRows, Hosts, Own, Row};
+ghost use Rattle.expansion.specs.Rows.{RowWord};
+
+// Whether each term is its own home.
+fn all_own(n: usize, homes: &[u32]) -> bool
+    requires { ⌜ n ≤ length (now homes) ⌝ }
+    ensures { λ r. ⌜ (r ≡ true → AllOwn n (before homes)) ⌝ }
+{
+    for t in 0..n {
+        if index(homes[t]) != t {
+            return false;
+        }
+    }
+    true
+}
+
+// A mask of the homes of other terms.
+fn mark_hosts(n: usize, homes: &[u32], hosts: &mut [u64])
+    requires { ⌜ (n ≤ most) × (Own n (now homes) × (length (now hosts) ≡ 8)) ⌝ }
+    ensures { λ _. ⌜ Hosts n (before homes) (after hosts) ⌝ }
+{
+    for t in 0..n {
+        let h = index(homes[t]);
+        if h == t {
+            continue;
+        }
+        put(hosts, h);
+    }
+}
+
+// Sets the bits of i with the terms whose home is v.
+fn set_guests(
+    n: usize,
+    i: TermNumber,
+    v: usize,
+    homes: &[u32],
+    first: &[u16],
+    next: &[u16],
+    table: &mut [u8],
+)
+    requires { ⌜ Inside n (i .0) v × (Chains n classSlots (now homes) (now first) (now next) × Room n (now table)) ⌝ }
+    ensures { λ _. ⌜ Adds n (Upto n (GuestPair (before homes) (i .0) v)) (before table) (after table) ⌝ }
+{
+    let mut j = linked(first, v);
+    while j < n {
+        set_pair(n, i, TermNumber(j), table);
+        j = linked(next, j);
+    }
+}
+
+// The pairs of home i with all terms.
+fn expand_row(
+    n: usize,
+    i: TermNumber,
+    homes: &[u32],
+    hosts: &[u64],
+    first: &[u16],
+    next: &[u16],
+    table: &mut [u8],
+)
+    requires { ⌜ (n ≤ most) × (Own n (now homes) × (Hosts n (now homes) (now hosts) × Chains n classSlots (now homes) (now first) (now next))) ⌝ }
+    requires { ⌜ (i .0 < n) × ((home (now homes) (i .0) ≡ i .0) × Room n (now table)) ⌝ }
+    ensures { λ _. ⌜ ExpandedIn n (before homes) (Row (i .0)) (before table) (after table) ⌝ }
+{
+    let start = i.0 * n;
+    let mut v = next_common(n, start, table, hosts, 0);
+    while v < n {
+        set_guests(n, i, v, homes, first, next, table);
+        v = next_common(n, start, table, hosts, v + 1);
+    }
+}
+
+// The pairs of all homes.
+fn expand_homes(
+    n: usize,
+    homes: &[u32],
+    hosts: &[u64],
+    first: &[u16],
+    next: &[u16],
+    table: &mut [u8],
+)
+    requires { ⌜ (n ≤ most) × (Own n (now homes) × (Hosts n (now homes) (now hosts) × Chains n classSlots (now homes) (now first) (now next))) ⌝ }
+    requires { ⌜ Room n (now table) ⌝ }
+    ensures { λ _. ⌜ ExpandedIn n (before homes) (HomeRows (before homes) n) (before table) (after table) ⌝ }
+{
+    for i in 0..n {
+        if index(homes[i]) != i {
+            continue;
+        }
+        expand_row(n, TermNumber(i), homes, hosts, first, next, table);
+    }
+}
+
+// Word w of row h, without what is past the end of the row.
+fn row_word(n: usize, h: TermNumber, w: usize, table: &[u8]) -> u64
+    requires { ⌜ (n ≤ most) × ((h .0 < n) × (64 * w < n)) ⌝ }
+    ensures { λ r. ⌜ RowWord n (h .0) w (before table) r ⌝ }
+{
+    let word = word_at(table, h.0 * n + 64 * w);
+    let left = n - 64 * w;
+    if 64 <= left {
+        return word;
+    }
+    word & ((1u64 << left) - 1)
+}
+
+// The bits of row h into row i.
+fn copy_row(n: usize, h: TermNumber, i: TermNumber, table: &mut [u8])
+    requires { ⌜ Inside n (h .0) (i .0) × ((i .0 ≢ h .0) × Room n (now table)) ⌝ }
+    ensures { λ _. ⌜ Adds n (CopyPair n (h .0) (i .0) (before table)) (before table) (after table) ⌝ }
+{
+    let mut w = 0;
+    while 64 * w < n {
+        let word = row_word(n, h, w, table);
+        or_word(table, i.0 * n + 64 * w, word);
+        w += 1;
+    }
+}
+
+// The rows of the terms that are not their own homes, from those of their homes.
+fn copy_rows(n: usize, homes: &[u32], table: &mut [u8])
+    requires { ⌜ (n ≤ most) × (Own n (now homes) × (Full n (now homes) (now table) × Room n (now table))) ⌝ }
+    ensures { λ _. ⌜ ExpandedIn n (before homes) (GuestRows (before homes) n) (before table) (after table) ⌝ }
+{
+    for i in 0..n {
+        let h = index(homes[i]);
+        if h == i {
+            continue;
+        }
+        copy_row(n, TermNumber(h), TermNumber(i), table);
+    }
+}
+
+// Sets the bit of each pair whose homes' bit is set. In place: the bit of a pair of homes is set only if it was.
+pub fn expand(n: usize, homes: &[u32], table: &mut [u8])
+    requires { ⌜ (n ≤ most) × (Own n (now homes) × (HomeColumns n (now homes) (now table) × Room n (now table))) ⌝ }
+    ensures { λ _. ⌜ Expanded n (before homes) (before table) (after table) ⌝ }
+{
+    if all_own(n, homes) {
+        return;
+    }
+    let mut hosts = [0u64; 8];
+    let mut first = [0u16; CLASSES];
+    let mut next = [0u16; MOST];
+    mark_hosts(n, homes, &mut hosts);
+    chain(n, homes, &mut first, &mut next);
+    expand_homes(n, homes, &hosts, &first, &next, table);
+    copy_rows(n, homes, table);
+}
