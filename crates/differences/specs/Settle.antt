@@ -7,8 +7,9 @@ use mathlib.Core.List.{List}
 use native.Mathlib.Omega.{arith}
 use lib.Arith.{digits-lt}
 use lib.Dec.{eqb}
-use borrow.Author.Tests.{eqb-true}
-use lib.ListN.{length, length-replicate}
+use borrow.Author.Tests.{eqb-true, eq-eqb}
+use lib.ListN.{length, getD, set, replicate, length-replicate, length-set, getD-replicate}
+use lib.Seq.{getD-set-same, getD-set-other}
 use native.Mathlib.Nat.{mul-le-mul-right, mul-le-mul-left}
 use Rattle.lists.specs.Booleans.{and-true, false-true, or-cases, or-false}
 use Rattle.lists.specs.Search.{choose}
@@ -18,6 +19,8 @@ use Rattle.pairbits.specs.Bits.{isSet, Bytes}
 use Rattle.points.specs.Places.{class, height, At, AtEither, Column}
 use Rattle.points.specs.Homes.{home}
 use Rattle.points.specs.Leads.{lead}
+use Rattle.buckets.specs.Buckets.{Chainable, keyOf, less-or-not, NextOf}
+use Rattle.words.specs.Words.{inMask, NextCommon, Put}
 use Rattle.marking.specs.Known.{Uniform, either-moving, uniform-adds}
 use Rattle.marking.specs.Marks.{Adds, One, Room, adds-already, bit-cases, no-bits, past-kept, room-kept, zeros}
 
@@ -180,6 +183,11 @@ module _ (S : Setting) where
   pub record Closed (table : List ℕ) (x y : ℕ) : Type 0 where
     pub settled : Reading x y → isSet table (valueBit (S .n) (S .homes) x y) ≡ true → Settled table x y
 
+  -- what a look at x and y leaves; r says whether it set pairs
+  pub record Looked (r : Bool) (old new doneOld doneNew : List ℕ) (x y : ℕ) : Type 0 where
+    pub step : Step r old new doneOld doneNew
+    pub closed : r ≡ false → Closed new x y
+
 module _ {S : Setting} where
   grows-none : (l : List ℕ) → Grows S l l
   grows-none l = record { long = refl; bytes = λ b. b; kept = λ k e. e; past = λ k h e. e; sound = λ D I H. H }
@@ -283,6 +291,22 @@ module _ {S : Setting} where
     settled = λ R e. ⊎-elim one-class (λ o. ⊎-elim apart-classes (λ d. moved (K .moved x y (R .right) d)) o) (L .stopped f (R .left-reads) (R .right-reads) e);
   }
 
+  -- where what x and y read is not different
+  pub closed-unset : {table : List ℕ} {x y : ℕ} → (isSet table (valueBit (S .n) (S .homes) x y) ≡ true → ⊥) → Closed S table x y
+  closed-unset no-bit = record { settled = λ _ e. absurd (no-bit e) }
+
+  pub looked-off : {table done : List ℕ} {x y : ℕ} {r : Bool} → Kept S table done → LeadsOn (S .n) (S .homes) (S .reads) (S .apart) r table done x y → r ≡ false → Looked S false table table done done x y
+  looked-off K L f = record { step = step-none K; closed = λ _. closed-off K L f }
+
+  pub looked-set : {old new doneOld doneNew : List ℕ} {x y : ℕ} → Step S true old new doneOld doneNew → Looked S true old new doneOld doneNew x y
+  looked-set p = record { step = p; closed = λ f. false-true f refl }
+
+  pub looked-none : {r : Bool} {old new doneOld doneNew : List ℕ} {x y : ℕ} → r ≡ false → Looked S r old new doneOld doneNew x y → Looked S false old new doneOld doneNew x y
+  looked-none e q = rw e at q
+
+  pub looked-then : {r a : Bool} {old mid new doneOld doneMid doneNew : List ℕ} {x y : ℕ} → r ≡ true → Looked S r old mid doneOld doneMid x y → Step S a mid new doneMid doneNew → Looked S true old new doneOld doneNew x y
+  looked-then e q p = looked-set (step-then (rw e at (q .step)) p)
+
   pub closed-moved : {table : List ℕ} {x y : ℕ} → Moved S table x y → Closed S table x y
   closed-moved m = record { settled = λ _ _. moved m }
 
@@ -292,93 +316,225 @@ pub record Listing (n r : ℕ) (leads : List ℕ) : Type 0 where
   pub long : r ≤ length leads
   pub below : (k : ℕ) → k < r → lead leads k < n
 
-module _ (S : Setting) (leads : List ℕ) where
-  -- x with the leads before l
-  pub record ClosedRow (table : List ℕ) (x l : ℕ) : Type 0 where
-    pub row : (v : ℕ) → v < l → Closed S table x (lead leads v)
+or-true : (a : Bool) → (a || true) ≡ true
+or-true true = refl
+or-true false = refl
 
-  -- the leads before k, each with those before it
+-- a look at x with the terms before it, by chains of the terms that have a key, and a mask of keys: a term counts if its key is its home,
+-- and in the mask
+module _ (S : Setting) (keys : List ℕ) where
+  -- x with the terms before t whose key is h
+  pub record ClosedKey (table : List ℕ) (x h t : ℕ) : Type 0 where
+    pub terms : (u : ℕ) → u < t → u < x → keyOf keys u ≡ h → Closed S table x u
+
+  -- a loop along the terms whose key is h: as long as nothing is set, x is closed with those before t
+  pub record KeyLoop (x h t : ℕ) (c : Bool) (old new doneOld doneNew : List ℕ) : Type 0 where
+    pub upto : t ≤ S .n
+    pub here : t < S .n → keyOf keys t ≡ h
+    pub step : Step S c old new doneOld doneNew
+    pub closed : c ≡ false → ClosedKey new x h t
+
+  -- all of them
+  pub record KeySwept (x h : ℕ) (c : Bool) (old new doneOld doneNew : List ℕ) : Type 0 where
+    pub step : Step S c old new doneOld doneNew
+    pub closed : c ≡ false → ClosedKey new x h x
+
+  module _ (mask : List ℕ) where
+    -- x with the terms before it whose home is before h
+    pub record ClosedBelow (table : List ℕ) (x h : ℕ) : Type 0 where
+      pub below : (u : ℕ) → u < x → keyOf keys u ≡ home (S .homes) u → inMask mask (home (S .homes) u) ≡ true → home (S .homes) u < h → Closed S table x u
+
+    -- a loop along the homes whose bit with that of x is set: h is the next one
+    pub record RowLoop (x h : ℕ) (c : Bool) (old new doneOld doneNew : List ℕ) : Type 0 where
+      pub few : h ≤ S .n + 64
+      pub step : Step S c old new doneOld doneNew
+      pub closed : c ≡ false → ClosedBelow new x h
+
+    pub record RowSwept (x : ℕ) (c : Bool) (old new doneOld doneNew : List ℕ) : Type 0 where
+      pub step : Step S c old new doneOld doneNew
+      pub closed : c ≡ false → ClosedBelow new x (S .n)
+
+-- for each lead its home is its key, and in the mask
+pub record LeadKeys (n r : ℕ) (homes leads keys mask : List ℕ) : Type 0 where
+  pub keys-long : length keys ≡ most
+  pub mask-long : length mask ≡ 8
+  pub low : (t : ℕ) → t < most → keyOf keys t ≤ most
+  pub key : (k : ℕ) → k < r → keyOf keys (lead leads k) ≡ home homes (lead leads k)
+  pub host : (k : ℕ) → k < r → inMask mask (home homes (lead leads k)) ≡ true
+
+pub keys-start : {n : ℕ} {homes leads keys mask : List ℕ} → keys ≡ replicate 512 512 → length mask ≡ 8 → LeadKeys n 0 homes leads keys mask
+keys-start e m = record {
+  keys-long = rw e (length-replicate {A = ℕ} 512 512);
+  mask-long = m;
+  low = λ t h. rw e (let z = getD-replicate {A = ℕ} 512 t 512 0 h in omega arith);
+  key = λ k h. absurd (omega arith);
+  host = λ k h. absurd (omega arith);
+}
+
+pub keys-more :
+    {n r h : ℕ} {homes leads keys mask new : List ℕ} → n ≤ most → lead leads r < n → home homes (lead leads r) < n → h ≡ home homes (lead leads r) →
+    LeadKeys n r homes leads keys mask → Put mask h new → LeadKeys n (r + 1) homes leads (set keys (lead leads r) h) new
+keys-more {n} {r} {h} {homes} {leads} {keys} {mask} {new} few hx hh e L P = record {
+  keys-long = length-set keys (lead leads r) h ∙ L .keys-long;
+  mask-long = P .long ∙ L .mask-long;
+  low = λ t g. ⊎-elim (λ (s : t ≡ x). rw (s, here) (omega arith)) (λ (m : t ≢ x). rw (getD-set-other keys x t h 0 m) (L .low t g)) (same-or-not t x);
+  key = λ k g. ⊎-elim (λ (s : lead leads k ≡ x). rw (s, here) e) (λ (m : lead leads k ≢ x). rw (getD-set-other keys x (lead leads k) h 0 m) (L .key k (earlier k g m))) (same-or-not (lead leads k) x);
+  host = λ k g. P .bits (home homes (lead leads k)) ∙ ⊎-elim (λ (s : k ≡ r). rw (s, e, eq-eqb (home homes x) (home homes x) refl) (or-true (inMask mask (home homes x)))) (λ (m : k ≢ r). rw (L .host k (omega arith))) (same-or-not k r);
+}
+  where
+    x : ℕ
+    x = lead leads r
+
+    here : getD (set keys x h) x 0 ≡ h
+    here = getD-set-same keys x h 0 (omega (arith, L .keys-long))
+
+    earlier : (k : ℕ) → k < r + 1 → lead leads k ≢ x → k < r
+    earlier k g m = ⊎-elim (λ (s : k ≡ r). absurd (m (rw s))) (λ (d : k ≢ r). omega arith) (same-or-not k r)
+
+pub keys-chainable : {n r : ℕ} {homes leads keys mask next : List ℕ} → n ≤ most → LeadKeys n r homes leads keys mask → n ≤ length next → Chainable n 513 keys next
+keys-chainable few L h = record { few = few; keys-long = omega (arith, L .keys-long); links-long = h; below = λ t g. omega (arith, L .low t (omega arith)) }
+
+module _ (S : Setting) (r : ℕ) (leads : List ℕ) where
+  -- x with the leads before it
+  pub record ClosedRow (table : List ℕ) (x : ℕ) : Type 0 where
+    pub row : (v : ℕ) → v < r → lead leads v < x → Closed S table x (lead leads v)
+
+  -- the first k leads, each with those before it
   pub record ClosedTable (table : List ℕ) (k : ℕ) : Type 0 where
-    pub rows : (u : ℕ) → u < k → ClosedRow table (lead leads u) u
+    pub rows : (u : ℕ) → u < k → ClosedRow table (lead leads u)
 
-  -- a loop along a row: as long as nothing is set, the row is closed as far as it has come
-  pub record Sweeping (x l : ℕ) (r : Bool) (old new doneOld doneNew : List ℕ) : Type 0 where
-    pub step : Step S r old new doneOld doneNew
-    pub closed : r ≡ false → ClosedRow new x l
-
-  -- and a loop over the rows
-  pub record SweepingAll (k : ℕ) (r : Bool) (old new doneOld doneNew : List ℕ) : Type 0 where
-    pub step : Step S r old new doneOld doneNew
-    pub closed : r ≡ false → ClosedTable new k
+  -- a loop over the rows
+  pub record SweepingAll (k : ℕ) (c : Bool) (old new doneOld doneNew : List ℕ) : Type 0 where
+    pub step : Step S c old new doneOld doneNew
+    pub closed : c ≡ false → ClosedTable new k
 
   -- the last look set nothing
-  pub record Done (r : ℕ) (old new : List ℕ) : Type 0 where
+  pub record Done (old new : List ℕ) : Type 0 where
     pub grows : Grows S old new
     pub closed : ClosedTable new r
 
   -- looks so far
-  pub record Looking (r : ℕ) (again : Bool) (old new doneOld doneNew : List ℕ) : Type 0 where
+  pub record Looking (again : Bool) (old new doneOld doneNew : List ℕ) : Type 0 where
     pub grows : Grows S old new
     pub kept : Kept S new doneNew
     pub long : length doneNew ≡ length doneOld
     pub closed : again ≡ false → ClosedTable new r
 
-or-true : (a : Bool) → (a || true) ≡ true
-or-true true = refl
-or-true false = refl
+-- a number of a chain is before t, or t
+chain-next : (n : ℕ) (keys : List ℕ) (h : ℕ) {t f u : ℕ} → NextOf n (keyOf keys) (keyOf keys t) (t + 1) f → keyOf keys t ≡ h → u < f → keyOf keys u ≡ h → (u < t) ⊎ (u ≡ t)
+chain-next n keys h {t} {f} {u} N e g k = ⊎-elim inl (λ a. ⊎-elim inr (λ (m : u ≢ t). absurd (N .none u (omega arith) g (k ∙ sym e))) (same-or-not u t)) (less-or-not u t)
 
-module _ {S : Setting} {leads : List ℕ} where
-  pub sweeping-start : {x : ℕ} {l done : List ℕ} → Kept S l done → Sweeping S leads x 0 false l l done done
-  sweeping-start K = record { step = step-none K; closed = λ _. record { row = λ v h. absurd (omega arith) } }
+module _ {S : Setting} {keys : List ℕ} where
+  module _ {x h : ℕ} where
+    pub key-start : {f : ℕ} {l done : List ℕ} → NextOf (S .n) (keyOf keys) h 0 f → Kept S l done → KeyLoop S keys x h f false l l done done
+    key-start N K = record { upto = N .inside; here = N .hit; step = step-none K; closed = λ _. record { terms = λ u g _ e. absurd (N .none u (omega arith) g e) } }
 
-  pub sweeping-skip : {x l : ℕ} {a : Bool} {old new doneOld doneNew : List ℕ} → Sweeping S leads x l a old new doneOld doneNew → Closed S new x (lead leads l) → Sweeping S leads x (l + 1) a old new doneOld doneNew
-  sweeping-skip {x} {l} p here = record {
-    step = p .step;
-    closed = λ e. record { row = λ v h. ⊎-elim (λ (s : v ≡ l). rw s here) (λ (d : v ≢ l). p .closed e .row v (omega arith)) (same-or-not v l) };
-  }
+    -- a look that sets nothing
+    pub key-closed :
+        {t f : ℕ} {b c : Bool} {old mid new doneOld doneMid doneNew : List ℕ} → t < S .n → NextOf (S .n) (keyOf keys) (keyOf keys t) (t + 1) f → b ≡ false →
+        KeyLoop S keys x h t c old mid doneOld doneMid → Looked S b mid new doneMid doneNew x t → KeyLoop S keys x h f c old new doneOld doneNew
+    key-closed {t} {f} {b} {c} {new = new} ht N z L q = record {
+      upto = N .inside;
+      here = λ g. N .hit g ∙ L .here ht;
+      step = rw (or-none c) at (step-then (L .step) (rw z at (q .step)));
+      closed = λ e. record { terms = λ u g a k. ⊎-elim (λ o. rw (q .step .same z) (L .closed e .terms u o a k)) (λ (s : u ≡ t). rw s (q .closed z)) (chain-next (S .n) keys h N (L .here ht) g k) };
+    }
+      where
+        or-none : (b : Bool) → (b || false) ≡ b
+        or-none true = refl
+        or-none false = refl
 
-  -- something was set
-  pub sweeping-set : {x l m : ℕ} {a : Bool} {old mid new doneOld doneMid doneNew : List ℕ} → Sweeping S leads x l a old mid doneOld doneMid → Step S true mid new doneMid doneNew → Sweeping S leads x m true old new doneOld doneNew
-  sweeping-set {a = a} p q = record { step = rw (or-true a) at (step-then (p .step) q); closed = λ f. false-true f refl }
+    -- something was set
+    pub key-set :
+        {t f : ℕ} {b c : Bool} {old mid new doneOld doneMid doneNew : List ℕ} → t < S .n → NextOf (S .n) (keyOf keys) (keyOf keys t) (t + 1) f → b ≡ true →
+        KeyLoop S keys x h t c old mid doneOld doneMid → Looked S b mid new doneMid doneNew x t → KeyLoop S keys x h f true old new doneOld doneNew
+    key-set {c = c} ht N z L q = record { upto = N .inside; here = λ g. N .hit g ∙ L .here ht; step = rw (or-true c) at (step-then (L .step) (rw z at (q .step))); closed = λ e. false-true e refl }
 
-  pub sweeping-all-start : {l done : List ℕ} → Kept S l done → SweepingAll S leads 0 false l l done done
+    pub swept-set : {t : ℕ} {b c : Bool} {old mid new doneOld doneMid doneNew : List ℕ} → b ≡ true → KeyLoop S keys x h t c old mid doneOld doneMid → Looked S b mid new doneMid doneNew x t → KeySwept S keys x h true old new doneOld doneNew
+    swept-set {c = c} z L q = record { step = rw (or-true c) at (step-then (L .step) (rw z at (q .step))); closed = λ e. false-true e refl }
+
+    pub swept-done : {t : ℕ} {c : Bool} {old new doneOld doneNew : List ℕ} → x ≤ t → KeyLoop S keys x h t c old new doneOld doneNew → KeySwept S keys x h c old new doneOld doneNew
+    swept-done g L = record { step = L .step; closed = λ e. record { terms = λ u a b k. L .closed e .terms u (omega arith) b k } }
+
+  module _ {mask : List ℕ} {x : ℕ} where
+    -- from home h to the next one whose bit is set
+    jump : {h f : ℕ} {table : List ℕ} → ClosedBelow S keys mask table x h → NextCommon (S .n) (home (S .homes) x * S .n) table mask h f → ClosedBelow S keys mask table x f
+    jump {h} {f} {table} C N = record {
+      below = λ u a k m g.
+          ⊎-elim (λ l. C .below u a k m l)
+          (λ l. closed-unset (λ e. N .none (home (S .homes) u) l g e m))
+          (less-or-not (home (S .homes) u) h);
+    }
+
+    pub row-start : {f : ℕ} {l done : List ℕ} → Kept S l done → NextCommon (S .n) (home (S .homes) x * S .n) l mask 0 f → RowLoop S keys mask x f false l l done done
+    row-start G N = record { few = N .few; step = step-none G; closed = λ _. jump (record { below = λ u a k m g. absurd (omega arith) }) N }
+
+    pub row-more :
+        {h f : ℕ} {a b : Bool} {old mid new doneOld doneMid doneNew : List ℕ} → RowLoop S keys mask x h a old mid doneOld doneMid → KeySwept S keys x h b mid new doneMid doneNew →
+        NextCommon (S .n) (home (S .homes) x * S .n) new mask (h + 1) f → RowLoop S keys mask x f (a || b) old new doneOld doneNew
+    row-more {h} {f} {a} {b} {new = new} L q N = record { few = N .few; step = step-then (L .step) (q .step); closed = λ e. let s = or-false a b e in jump (both (s .0) (s .1)) N }
+      where
+        both : a ≡ false → b ≡ false → ClosedBelow S keys mask new x (h + 1)
+        both e f = record {
+          below = λ u l k m g.
+              ⊎-elim
+              (λ (s : home (S .homes) u ≡ h). q .closed f .terms u l l (k ∙ s))
+              (λ (d : home (S .homes) u ≢ h). rw (q .step .same f) (L .closed e .below u l k m (omega arith)))
+              (same-or-not (home (S .homes) u) h);
+        }
+
+    pub row-done : {h : ℕ} {c : Bool} {old new doneOld doneNew : List ℕ} → S .n ≤ h → RowLoop S keys mask x h c old new doneOld doneNew → RowSwept S keys mask x c old new doneOld doneNew
+    row-done g L = record { step = L .step; closed = λ e. record { below = λ u a k m l. L .closed e .below u a k m (omega arith) } }
+
+    -- something was set
+    pub row-left : {h : ℕ} {a b : Bool} {old mid new doneOld doneMid doneNew : List ℕ} → (a || b) ≡ true → RowLoop S keys mask x h a old mid doneOld doneMid → KeySwept S keys x h b mid new doneMid doneNew → RowSwept S keys mask x true old new doneOld doneNew
+    row-left e L q = record { step = rw e at (step-then (L .step) (q .step)); closed = λ f. false-true f refl }
+
+module _ {S : Setting} {r : ℕ} {leads : List ℕ} where
+  pub sweeping-all-start : {l done : List ℕ} → Kept S l done → SweepingAll S r leads 0 false l l done done
   sweeping-all-start K = record { step = step-none K; closed = λ _. record { rows = λ u h. absurd (omega arith) } }
 
   pub sweeping-all-more :
-      {k : ℕ} {a b : Bool} {old mid new doneOld doneMid doneNew : List ℕ} →
-      SweepingAll S leads k a old mid doneOld doneMid → Sweeping S leads (lead leads k) k b mid new doneMid doneNew → SweepingAll S leads (k + 1) (a || b) old new doneOld doneNew
-  sweeping-all-more {k} {a} {b} p q = record {
+      {k : ℕ} {a b : Bool} {keys mask old mid new doneOld doneMid doneNew : List ℕ} → Ready S → Listing (S .n) r leads → LeadKeys (S .n) r (S .homes) leads keys mask →
+      SweepingAll S r leads k a old mid doneOld doneMid → RowSwept S keys mask (lead leads k) b mid new doneMid doneNew → SweepingAll S r leads (k + 1) (a || b) old new doneOld doneNew
+  sweeping-all-more {k} {a} {b} Y I K p q = record {
     step = step-then (p .step) (q .step);
     closed = λ e.
-        let r = or-false a b e in
-        record { rows = λ u h. ⊎-elim (λ (s : u ≡ k). rw s (q .closed (r .1))) (λ (d : u ≢ k). rw (q .step .same (r .1)) (p .closed (r .0) .rows u (omega arith))) (same-or-not u k) };
+        let s = or-false a b e in
+        record {
+          rows = λ u h.
+              ⊎-elim
+              (λ (t : u ≡ k). rw t (record { row = λ v g l. q .closed (or-false a b e .1) .below (lead leads v) l (K .key v g) (K .host v g) (Y .looks .homes-below (lead leads v) (I .below v g)) }))
+              (λ (d : u ≢ k). rw (q .step .same (or-false a b e .1)) (p .closed (or-false a b e .0) .rows u (omega arith)))
+              (same-or-not u k);
+        };
   }
 
-  pub sweeping-all-left : {k m : ℕ} {a : Bool} {old new doneOld doneNew : List ℕ} → a ≡ true → SweepingAll S leads k a old new doneOld doneNew → SweepingAll S leads m true old new doneOld doneNew
+  pub sweeping-all-left : {k m : ℕ} {a : Bool} {old new doneOld doneNew : List ℕ} → a ≡ true → SweepingAll S r leads k a old new doneOld doneNew → SweepingAll S r leads m true old new doneOld doneNew
   sweeping-all-left e p = record { step = rw e at (p .step); closed = λ f. false-true f refl }
 
-  pub looking-start : {r : ℕ} {l done : List ℕ} → Kept S l done → Looking S leads r true l l done done
+  pub looking-start : {l done : List ℕ} → Kept S l done → Looking S r leads true l l done done
   looking-start {l = l} K = record { grows = grows-none l; kept = K; long = refl; closed = λ e. false-true e refl }
 
-  pub looking-more : {r : ℕ} {a again : Bool} {old mid new doneOld doneMid doneNew : List ℕ} → Looking S leads r a old mid doneOld doneMid → SweepingAll S leads r again mid new doneMid doneNew → Looking S leads r again old new doneOld doneNew
+  pub looking-more : {a again : Bool} {old mid new doneOld doneMid doneNew : List ℕ} → Looking S r leads a old mid doneOld doneMid → SweepingAll S r leads r again mid new doneMid doneNew → Looking S r leads again old new doneOld doneNew
   looking-more p q = record { grows = grows-then (p .grows) (q .step .grows); kept = q .step .kept; long = q .step .long ∙ p .long; closed = q .closed }
 
-  pub looking-done : {r : ℕ} {again : Bool} {old new doneOld doneNew : List ℕ} → again ≡ false → Looking S leads r again old new doneOld doneNew → Done S leads r old new
+  pub looking-done : {again : Bool} {old new doneOld doneNew : List ℕ} → again ≡ false → Looking S r leads again old new doneOld doneNew → Done S r leads old new
   looking-done e p = record { grows = p .grows; closed = p .closed e }
 
   -- one look after another
-  pub done-after : {r : ℕ} {a : Bool} {old mid new doneOld doneMid : List ℕ} → Step S a old mid doneOld doneMid → Done S leads r mid new → Done S leads r old new
+  pub done-after : {a : Bool} {old mid new doneOld doneMid : List ℕ} → Step S a old mid doneOld doneMid → Done S r leads mid new → Done S r leads old new
   done-after p d = record { grows = grows-then (p .grows) (d .grows); closed = d .closed }
 
-  pub done-first : {r : ℕ} {a : Bool} {old new doneOld doneNew : List ℕ} → a ≡ false → SweepingAll S leads r a old new doneOld doneNew → Done S leads r old new
+  pub done-first : {a : Bool} {old new doneOld doneNew : List ℕ} → a ≡ false → SweepingAll S r leads r a old new doneOld doneNew → Done S r leads old new
   done-first e p = record { grows = p .step .grows; closed = p .closed e }
 
 -- how much is left: the bits that are not set, and one for a further look
 abbrev pub left : ℕ → Bool → List ℕ → ℕ
 left n again done = choose again 1 0 + unset done (n * n)
 
-pub left-less : {S : Setting} {leads : List ℕ} {k : ℕ} {again : Bool} {mid new doneMid doneNew : List ℕ} → SweepingAll S leads k again mid new doneMid doneNew → left (S .n) again doneNew < left (S .n) true doneMid
-left-less {S} {leads} {k} {again} {mid} {new} {doneMid} {doneNew} q = go again refl
+pub left-less : {S : Setting} {r : ℕ} {leads : List ℕ} {k : ℕ} {again : Bool} {mid new doneMid doneNew : List ℕ} → SweepingAll S r leads k again mid new doneMid doneNew → left (S .n) again doneNew < left (S .n) true doneMid
+left-less {S} {r} {leads} {k} {again} {mid} {new} {doneMid} {doneNew} q = go again refl
   where
     go : (b : Bool) → again ≡ b → left (S .n) b doneNew < left (S .n) true doneMid
     go true e = let f = q .step .fresh e in omega (arith, unset-less doneMid doneNew (S .n * S .n) (q .step .done-kept) (f .0) (f .1) (f .2) (f .3))

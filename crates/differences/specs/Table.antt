@@ -136,7 +136,7 @@ module _ (n m : ℕ) (classes heights homes points reads readHeights leads leftC
     differ-home i j hi hj e =
         (rw (at-home i hi) (terms .inside i hi), (rw (at-home j hj) (terms .inside j hj), rw (at-home i hi, at-home j hj, H .height-same i hi, H .height-same j hj) e))
 
-    module _ {size : ℕ} {base old : List ℕ} (B : Based n m points heights leftClasses leftHeights rightClasses rightHeights apart size base) (d : Done S leads r base old) where
+    module _ {size : ℕ} {base old : List ℕ} (B : Based n m points heights leftClasses leftHeights rightClasses rightHeights apart size base) (d : Done S r leads base old) where
       abbrev a : Adds n (PointsDiffer n apart points heights) (zeros size) (B .middle)
       a = B .by-class
 
@@ -207,10 +207,10 @@ module _ (n m : ℕ) (classes heights homes points reads readHeights leads leftC
               (rw (g .class-same, h .class-same, g .height-same, h .height-same) (at-homes i j hi hj w)));
         })
 
-        row : (u v : ℕ) → u < n → v < n → class reads u < n → class reads v < n → (g : Led homes reads readHeights leads r u) → (h : Led homes reads readHeights leads r v) → h .at < g .at → isSet new (u * n + v) ≡ true → Settled (plain n classes heights reads readHeights apart) new u v
+        row : (u v : ℕ) → u < n → v < n → class reads u < n → class reads v < n → (g : Led homes reads readHeights leads r u) → (h : Led homes reads readHeights leads r v) → lead leads (h .at) < lead leads (g .at) → isSet new (u * n + v) ≡ true → Settled (plain n classes heights reads readHeights apart) new u v
         row u v hu hv lu lv g h o e =
             led u v g h
-            (d .closed .rows (g .at) (g .inside) .row (h .at) o .settled
+            (d .closed .rows (g .at) (g .inside) .row (h .at) (h .inside) o .settled
             (record { left = L .below (g .at) (g .inside); right = L .below (h .at) (h .inside); left-reads = rw (g .class-same) lu; right-reads = rw (h .class-same) lv })
             (rw (g .home-same, h .home-same) (home-bit u v hu hv e)))
 
@@ -222,10 +222,10 @@ module _ (n m : ℕ) (classes heights homes points reads readHeights leads leftC
                 ⊎-elim (λ o. inl (row u v hu hv lu lv g h o e))
                 (λ o.
                 ⊎-elim
-                (λ (s : h .at ≡ g .at). inl (one-class (sym (g .class-same) ∙ ap (λ (k : ℕ). class reads (lead leads k)) (sym s) ∙ h .class-same)))
-                (λ (w : h .at ≢ g .at). inr (row v u hv hu lv lu h g (omega arith) f))
-                (same-or-not (h .at) (g .at)))
-                (less-or-not (h .at) (g .at))
+                (λ (s : lead leads (h .at) ≡ lead leads (g .at)). inl (one-class (sym (g .class-same) ∙ ap (λ (k : ℕ). class reads k) (sym s) ∙ h .class-same)))
+                (λ (w : lead leads (h .at) ≢ lead leads (g .at)). inr (row v u hv hu lv lu h g (omega arith) f))
+                (same-or-not (lead leads (h .at)) (lead leads (g .at))))
+                (less-or-not (lead leads (h .at)) (lead leads (g .at)))
 
         pub table-told : Told n m classes heights reads readHeights leftClasses leftHeights rightClasses rightHeights apart size new
         table-told = record {

@@ -1,5 +1,6 @@
 // Inverse dereferencing: where what two dereferences read is different, so are the terms that stand as far apart as the places that they
 // read. Each bit that is set may give others, until a look at all pairs of leads finds nothing more.
+use buckets::chain;
 use distances::ENTRIES;
 use distances::STARTS;
 use distances::building::build;
@@ -24,19 +25,22 @@ use points::places::slot;
 use types::MOST;
 use types::PAIR_BYTES;
 use types::TermNumber;
+use words::next_common;
+use words::put;
 ghost use mathlib.Core.Path.{_≡_};
 ghost use mathlib.Core.Bool.{true, false};
-ghost use Prim.Native.Nat.{_<_, _≤_, _+_, _*_};
+ghost use Prim.Native.Nat.{ℕ, _<_, _≤_, _+_, _*_};
 ghost use lib.ListN.{length};
 ghost use Rattle.lists.specs.Lent.{before, after};
 ghost use Rattle.pairbits.specs.Bits.{isSet};
 ghost use Rattle.distances.specs.Distances.{Indexed};
-ghost use Rattle.points.specs.Leads.{lead};
-ghost use Rattle.points.specs.Places.{AtEither, Chained, Column, top};
+ghost use Rattle.points.specs.Homes.{home};
+ghost use Rattle.buckets.specs.Buckets.{Chains};
+ghost use Rattle.points.specs.Places.{AtEither, Chained, classSlots, Column, top};
 ghost use Rattle.tables.specs.Limits.{most};
 ghost use Rattle.marking.specs.Marks.{Adds, Inside, Room};
 ghost use Rattle.marking.specs.Known.{Uniform};
-ghost use Rattle.differences.specs.Settle.{Done, Kept, LeadsOn, Listing, Looks, Moved, Reading, Ready, Repeated, setting, Step, Sweeping, SweepingAll, valueBit};
+ghost use Rattle.differences.specs.Settle.{Done, Kept, KeySwept, LeadKeys, LeadsOn, Listing, Looked, Looks, Moved, Reading, Ready, Repeated, RowSwept, setting, Step, SweepingAll, valueBit};
 
 // The bucket of the distance between what x and y read. Nothing relies on it.
 fn fact_bucket(a: u32, p: u64, b: u32, q: u64) -> usize
@@ -198,6 +202,68 @@ fn leads_on(
     !test_pair(n, x, y, done)
 }
 
+// Looks at x and y: where what they read is different, the pairs that they give are set; tells whether that was still to do.
+fn look(
+    n: usize,
+    x: TermNumber,
+    y: TermNumber,
+    points: &[u32],
+    heights: &[u64],
+    class_first: &[u16],
+    class_next: &[u16],
+    slot_first: &[u16],
+    slot_next: &[u16],
+    homes: &[u32],
+    reads: &[u32],
+    read_heights: &[u64],
+    apart: &[u8],
+    levels: &[u16],
+    from: &[u16],
+    order: &[u16],
+    starts: &[u32],
+    entries: &[u8],
+    pairs: &mut [u8],
+    done: &mut [u8],
+    notes: &mut Notes,
+) -> bool
+    requires { ⌜ Chained n (now points) (now heights) (now «class_first») (now «class_next») (now «slot_first») (now «slot_next») × Indexed n (now points) (now heights) (now apart) (now levels) (now from) (now order) (now starts) (now entries) ⌝ }
+    requires { ⌜ (let S = setting n (now points) (now heights) (now homes) (now reads) (now «read_heights») (now apart) in Ready S × Kept S (now pairs) (now done)) ⌝ }
+    requires { ⌜ (x .0 < n) × (y .0 < n) ⌝ }
+    ensures { λ r. ⌜ Looked (setting n (before points) (before heights) (before homes) (before reads) (before «read_heights») (before apart)) r (before pairs) (after pairs) (before done) (after done) (x .0) (y .0) ⌝ }
+{
+    if !leads_on(n, x, y, homes, reads, apart, pairs, done) {
+        return false;
+    }
+    if was_fired(n, x, y, reads, read_heights, done, notes) {
+        set_pair(n, x, y, done);
+        return true;
+    }
+    fire(
+        n,
+        x,
+        y,
+        points,
+        heights,
+        class_first,
+        class_next,
+        slot_first,
+        slot_next,
+        homes,
+        reads,
+        read_heights,
+        apart,
+        levels,
+        from,
+        order,
+        starts,
+        entries,
+        pairs,
+        done,
+        notes,
+    );
+    true
+}
+
 // A look at two noted dereferences, the later one first, as in the looks at all.
 fn visit_noted(
     n: usize,
@@ -238,31 +304,7 @@ fn visit_noted(
     if n <= second {
         return false;
     }
-    if !leads_on(
-        n,
-        TermNumber(first),
-        TermNumber(second),
-        homes,
-        reads,
-        apart,
-        pairs,
-        done,
-    ) {
-        return false;
-    }
-    if was_fired(
-        n,
-        TermNumber(first),
-        TermNumber(second),
-        reads,
-        read_heights,
-        done,
-        notes,
-    ) {
-        set_pair(n, TermNumber(first), TermNumber(second), done);
-        return true;
-    }
-    fire(
+    look(
         n,
         TermNumber(first),
         TermNumber(second),
@@ -284,8 +326,7 @@ fn visit_noted(
         pairs,
         done,
         notes,
-    );
-    true
+    )
 }
 
 // Looks at x and the dereferences with their values at home h.
@@ -479,7 +520,7 @@ fn take_all(
     changed
 }
 
-// Sets the pairs that x and y give, and what follows from those.
+// Looks at x and y, and sets what follows from the pairs that are set.
 fn follow(
     n: usize,
     limit: u32,
@@ -503,13 +544,13 @@ fn follow(
     pairs: &mut [u8],
     done: &mut [u8],
     notes: &mut Notes,
-)
+) -> bool
     requires { ⌜ Chained n (now points) (now heights) (now «class_first») (now «class_next») (now «slot_first») (now «slot_next») × Indexed n (now points) (now heights) (now apart) (now levels) (now from) (now order) (now starts) (now entries) ⌝ }
-    requires { ⌜ (let S = setting n (now points) (now heights) (now homes) (now reads) (now «read_heights») (now apart) in Ready S × (Kept S (now pairs) (now done) × Reading S (x .0) (y .0))) ⌝ }
-    requires { ⌜ (isSet (now pairs) (valueBit n (now homes) (x .0) (y .0)) ≡ true) × (isSet (now done) (x .0 * n + y .0) ≡ false) ⌝ }
-    ensures { λ _. ⌜ Step (setting n (before points) (before heights) (before homes) (before reads) (before «read_heights») (before apart)) true (before pairs) (after pairs) (before done) (after done) ⌝ }
+    requires { ⌜ (let S = setting n (now points) (now heights) (now homes) (now reads) (now «read_heights») (now apart) in Ready S × Kept S (now pairs) (now done)) ⌝ }
+    requires { ⌜ (x .0 < n) × (y .0 < n) ⌝ }
+    ensures { λ r. ⌜ Looked (setting n (before points) (before heights) (before homes) (before reads) (before «read_heights») (before apart)) r (before pairs) (after pairs) (before done) (after done) (x .0) (y .0) ⌝ }
 {
-    fire(
+    if !look(
         n,
         x,
         y,
@@ -531,7 +572,9 @@ fn follow(
         pairs,
         done,
         notes,
-    );
+    ) {
+        return false;
+    }
     take_all(
         n,
         limit,
@@ -554,15 +597,18 @@ fn follow(
         done,
         notes,
     );
+    true
 }
 
-// A look at lead k with each lead before it, unless something is set and more steps were taken than the limit. If it sets nothing, inverse
-// dereferencing gives nothing more from these.
-fn sweep_row(
+// A look at x with each lead before it whose home is h, unless something is set and more steps were taken than the limit.
+fn sweep_home(
     n: usize,
     limit: u32,
-    k: usize,
-    leads: &[u16],
+    x: TermNumber,
+    h: usize,
+    keys: &[u32],
+    lead_first: &[u16],
+    lead_next: &[u16],
     points: &[u32],
     heights: &[u64],
     class_first: &[u16],
@@ -584,42 +630,16 @@ fn sweep_row(
 ) -> bool
     requires { ⌜ Chained n (now points) (now heights) (now «class_first») (now «class_next») (now «slot_first») (now «slot_next») × Indexed n (now points) (now heights) (now apart) (now levels) (now from) (now order) (now starts) (now entries) ⌝ }
     requires { ⌜ (let S = setting n (now points) (now heights) (now homes) (now reads) (now «read_heights») (now apart) in Ready S × Kept S (now pairs) (now done)) ⌝ }
-    requires { ⌜ Listing n (k + 1) (now leads) ⌝ }
-    ensures { λ r. ⌜ Sweeping (setting n (before points) (before heights) (before homes) (before reads) (before «read_heights») (before apart)) (before leads) (lead (before leads) k) k r (before pairs) (after pairs) (before done) (after done) ⌝ }
+    requires { ⌜ (x .0 < n) × ((h < n) × Chains n classSlots (now keys) (now «lead_first») (now «lead_next»)) ⌝ }
+    ensures { λ r. ⌜ KeySwept (setting n (before points) (before heights) (before homes) (before reads) (before «read_heights») (before apart)) (before keys) (x .0) h r (before pairs) (after pairs) (before done) (after done) ⌝ }
 {
     let mut changed = false;
-    let x = linked(leads, k);
-    for l in 0..k {
-        let y = linked(leads, l);
-        if !leads_on(
-            n,
-            TermNumber(x),
-            TermNumber(y),
-            homes,
-            reads,
-            apart,
-            pairs,
-            done,
-        ) {
-            continue;
-        }
-        if was_fired(
-            n,
-            TermNumber(x),
-            TermNumber(y),
-            reads,
-            read_heights,
-            done,
-            notes,
-        ) {
-            set_pair(n, TermNumber(x), TermNumber(y), done);
-            changed = true;
-            continue;
-        }
-        follow(
+    let mut y = linked(lead_first, h);
+    while y < x.0 {
+        let more = follow(
             n,
             limit,
-            TermNumber(x),
+            x,
             TermNumber(y),
             points,
             heights,
@@ -640,6 +660,10 @@ fn sweep_row(
             done,
             notes,
         );
+        y = linked(lead_next, y);
+        if !more {
+            continue;
+        }
         changed = true;
         if is_over(limit, notes) {
             return true;
@@ -648,7 +672,175 @@ fn sweep_row(
     changed
 }
 
+// A look at x with each lead before it, unless something is set and more steps were taken than the limit. If it sets nothing, inverse
+// dereferencing gives nothing more from these.
+fn sweep_row(
+    n: usize,
+    limit: u32,
+    x: TermNumber,
+    keys: &[u32],
+    lead_first: &[u16],
+    lead_next: &[u16],
+    hosts: &[u64],
+    points: &[u32],
+    heights: &[u64],
+    class_first: &[u16],
+    class_next: &[u16],
+    slot_first: &[u16],
+    slot_next: &[u16],
+    homes: &[u32],
+    reads: &[u32],
+    read_heights: &[u64],
+    apart: &[u8],
+    levels: &[u16],
+    from: &[u16],
+    order: &[u16],
+    starts: &[u32],
+    entries: &[u8],
+    pairs: &mut [u8],
+    done: &mut [u8],
+    notes: &mut Notes,
+) -> bool
+    requires { ⌜ Chained n (now points) (now heights) (now «class_first») (now «class_next») (now «slot_first») (now «slot_next») × Indexed n (now points) (now heights) (now apart) (now levels) (now from) (now order) (now starts) (now entries) ⌝ }
+    requires { ⌜ (let S = setting n (now points) (now heights) (now homes) (now reads) (now «read_heights») (now apart) in Ready S × Kept S (now pairs) (now done)) ⌝ }
+    requires { ⌜ (x .0 < n) × Chains n classSlots (now keys) (now «lead_first») (now «lead_next») ⌝ }
+    ensures { λ r. ⌜ RowSwept (setting n (before points) (before heights) (before homes) (before reads) (before «read_heights») (before apart)) (before keys) (before hosts) (x .0) r (before pairs) (after pairs) (before done) (after done) ⌝ }
+{
+    let mut changed = false;
+    let k = x.0;
+    let start = index(homes[k]) * n;
+    let mut h = next_common(n, start, pairs, hosts, 0);
+    while h < n {
+        let more = sweep_home(
+            n,
+            limit,
+            x,
+            h,
+            keys,
+            lead_first,
+            lead_next,
+            points,
+            heights,
+            class_first,
+            class_next,
+            slot_first,
+            slot_next,
+            homes,
+            reads,
+            read_heights,
+            apart,
+            levels,
+            from,
+            order,
+            starts,
+            entries,
+            pairs,
+            done,
+            notes,
+        );
+        changed = changed | more;
+        if changed & is_over(limit, notes) {
+            return true;
+        }
+        h = next_common(n, start, pairs, hosts, h + 1);
+    }
+    changed
+}
+
+// The home of each lead as its key, and the homes of leads as a mask.
+fn fill_keys(
+    n: usize,
+    count: usize,
+    leads: &[u16],
+    homes: &[u32],
+    keys: &mut [u32],
+    hosts: &mut [u64],
+)
+    requires { ⌜ (n ≤ most) × (Listing n count (now leads) × (n ≤ length (now homes))) ⌝ }
+    requires { ⌜ ((t : ℕ) → t < n → home (now homes) t < n) × LeadKeys n 0 (now homes) (now leads) (now keys) (now hosts) ⌝ }
+    ensures { λ _. ⌜ LeadKeys n count (before homes) (before leads) (after keys) (after hosts) ⌝ }
+{
+    for k in 0..count {
+        let x = linked(leads, k);
+        let h = homes[x];
+        keys[x] = h;
+        put(hosts, index(h));
+    }
+}
+
 // A look at all leads, unless something is set and more steps were taken than the limit.
+fn sweep_rows(
+    n: usize,
+    limit: u32,
+    count: usize,
+    leads: &[u16],
+    keys: &[u32],
+    lead_first: &[u16],
+    lead_next: &[u16],
+    hosts: &[u64],
+    points: &[u32],
+    heights: &[u64],
+    class_first: &[u16],
+    class_next: &[u16],
+    slot_first: &[u16],
+    slot_next: &[u16],
+    homes: &[u32],
+    reads: &[u32],
+    read_heights: &[u64],
+    apart: &[u8],
+    levels: &[u16],
+    from: &[u16],
+    order: &[u16],
+    starts: &[u32],
+    entries: &[u8],
+    pairs: &mut [u8],
+    done: &mut [u8],
+    notes: &mut Notes,
+) -> bool
+    requires { ⌜ Chained n (now points) (now heights) (now «class_first») (now «class_next») (now «slot_first») (now «slot_next») × Indexed n (now points) (now heights) (now apart) (now levels) (now from) (now order) (now starts) (now entries) ⌝ }
+    requires { ⌜ (let S = setting n (now points) (now heights) (now homes) (now reads) (now «read_heights») (now apart) in Ready S × Kept S (now pairs) (now done)) ⌝ }
+    requires { ⌜ Listing n count (now leads) × (LeadKeys n count (now homes) (now leads) (now keys) (now hosts) × Chains n classSlots (now keys) (now «lead_first») (now «lead_next»)) ⌝ }
+    ensures { λ r. ⌜ SweepingAll (setting n (before points) (before heights) (before homes) (before reads) (before «read_heights») (before apart)) count (before leads) count r (before pairs) (after pairs) (before done) (after done) ⌝ }
+{
+    let mut changed = false;
+    for k in 0..count {
+        let x = linked(leads, k);
+        let more = sweep_row(
+            n,
+            limit,
+            TermNumber(x),
+            keys,
+            lead_first,
+            lead_next,
+            hosts,
+            points,
+            heights,
+            class_first,
+            class_next,
+            slot_first,
+            slot_next,
+            homes,
+            reads,
+            read_heights,
+            apart,
+            levels,
+            from,
+            order,
+            starts,
+            entries,
+            pairs,
+            done,
+            notes,
+        );
+        changed = changed | more;
+        if changed & is_over(limit, notes) {
+            return true;
+        }
+    }
+    changed
+}
+
+// The same, with leads in chains by their homes.
 fn sweep(
     n: usize,
     limit: u32,
@@ -676,40 +868,42 @@ fn sweep(
     requires { ⌜ Chained n (now points) (now heights) (now «class_first») (now «class_next») (now «slot_first») (now «slot_next») × Indexed n (now points) (now heights) (now apart) (now levels) (now from) (now order) (now starts) (now entries) ⌝ }
     requires { ⌜ (let S = setting n (now points) (now heights) (now homes) (now reads) (now «read_heights») (now apart) in Ready S × Kept S (now pairs) (now done)) ⌝ }
     requires { ⌜ Listing n count (now leads) ⌝ }
-    ensures { λ r. ⌜ SweepingAll (setting n (before points) (before heights) (before homes) (before reads) (before «read_heights») (before apart)) (before leads) count r (before pairs) (after pairs) (before done) (after done) ⌝ }
+    ensures { λ r. ⌜ SweepingAll (setting n (before points) (before heights) (before homes) (before reads) (before «read_heights») (before apart)) count (before leads) count r (before pairs) (after pairs) (before done) (after done) ⌝ }
 {
-    let mut changed = false;
-    for k in 0..count {
-        let more = sweep_row(
-            n,
-            limit,
-            k,
-            leads,
-            points,
-            heights,
-            class_first,
-            class_next,
-            slot_first,
-            slot_next,
-            homes,
-            reads,
-            read_heights,
-            apart,
-            levels,
-            from,
-            order,
-            starts,
-            entries,
-            pairs,
-            done,
-            notes,
-        );
-        changed = changed | more;
-        if changed & is_over(limit, notes) {
-            return true;
-        }
-    }
-    changed
+    let mut keys = [512u32; MOST];
+    let mut hosts = [0u64; 8];
+    let mut lead_first = [0u16; CLASSES];
+    let mut lead_next = [0u16; MOST];
+    fill_keys(n, count, leads, homes, &mut keys, &mut hosts);
+    chain(n, &keys, &mut lead_first, &mut lead_next);
+    sweep_rows(
+        n,
+        limit,
+        count,
+        leads,
+        &keys,
+        &lead_first,
+        &lead_next,
+        &hosts,
+        points,
+        heights,
+        class_first,
+        class_next,
+        slot_first,
+        slot_next,
+        homes,
+        reads,
+        read_heights,
+        apart,
+        levels,
+        from,
+        order,
+        starts,
+        entries,
+        pairs,
+        done,
+        notes,
+    )
 }
 
 // Looks until one sets nothing.
@@ -739,7 +933,7 @@ fn sweep_all(
     requires { ⌜ Chained n (now points) (now heights) (now «class_first») (now «class_next») (now «slot_first») (now «slot_next») × Indexed n (now points) (now heights) (now apart) (now levels) (now from) (now order) (now starts) (now entries) ⌝ }
     requires { ⌜ (let S = setting n (now points) (now heights) (now homes) (now reads) (now «read_heights») (now apart) in Ready S × Kept S (now pairs) (now done)) ⌝ }
     requires { ⌜ Listing n count (now leads) ⌝ }
-    ensures { λ _. ⌜ Done (setting n (before points) (before heights) (before homes) (before reads) (before «read_heights») (before apart)) (before leads) count (before pairs) (after pairs) ⌝ }
+    ensures { λ _. ⌜ Done (setting n (before points) (before heights) (before homes) (before reads) (before «read_heights») (before apart)) count (before leads) (before pairs) (after pairs) ⌝ }
 {
     let mut again = true;
     while again {
@@ -791,7 +985,7 @@ fn settle_indexed(
 )
     requires { ⌜ Chained n (now points) (now heights) (now «class_first») (now «class_next») (now «slot_first») (now «slot_next») ⌝ }
     requires { ⌜ (let S = setting n (now points) (now heights) (now homes) (now reads) (now «read_heights») (now apart) in Ready S × Kept S (now pairs) (now done)) × Listing n count (now leads) ⌝ }
-    ensures { λ _. ⌜ Done (setting n (before points) (before heights) (before homes) (before reads) (before «read_heights») (before apart)) (before leads) count (before pairs) (after pairs) ⌝ }
+    ensures { λ _. ⌜ Done (setting n (before points) (before heights) (before homes) (before reads) (before «read_heights») (before apart)) count (before leads) (before pairs) (after pairs) ⌝ }
 {
     let mut levels = [0u16; CLASSES];
     let mut from = [0u16; CLASSES];
@@ -856,7 +1050,7 @@ pub(crate) fn settle(
 )
     requires { ⌜ Chained n (now points) (now heights) (now «class_first») (now «class_next») (now «slot_first») (now «slot_next») ⌝ }
     requires { ⌜ Ready (setting n (now points) (now heights) (now homes) (now reads) (now «read_heights») (now apart)) × (Listing n count (now leads) × (Room n (now pairs) × Uniform n (now points) (now heights) (now pairs))) ⌝ }
-    ensures { λ _. ⌜ Done (setting n (before points) (before heights) (before homes) (before reads) (before «read_heights») (before apart)) (before leads) count (before pairs) (after pairs) ⌝ }
+    ensures { λ _. ⌜ Done (setting n (before points) (before heights) (before homes) (before reads) (before «read_heights») (before apart)) count (before leads) (before pairs) (after pairs) ⌝ }
 {
     let mut done = [0u8; PAIR_BYTES];
     let levels = [0u16; CLASSES];

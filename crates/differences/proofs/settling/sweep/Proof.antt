@@ -1,64 +1,74 @@
--- `differences::settling::sweep` meets its contract. The invariant: as long as nothing is set, the leads before k are closed.
-use Prim.Native.Nat.{_-_, _≤_}
-use mathlib.Core.Path.{_≡_, _∙_}
+-- `differences::settling::sweep` meets its contract.
+use Prim.Native.Nat.{ℕ}
 use native.Mathlib.Omega.{arith}
+use mathlib.Core.Path.{refl}
+use lib.ListN.{length-replicate}
+use Rattle.differences.specs.Settle.{keys-start, keys-chainable}
 use borrow.Author.Needs.{needs}
-use Rattle.lists.specs.Booleans.{and-true}
-use Rattle.differences.specs.Settle.{setting, SweepingAll, sweeping-all-start, sweeping-all-more, sweeping-all-left}
 use Rattle.differences.proofs.settling.sweep.Statement.{statement}
 use Rattle.differences.proofs.settling.sweep.Tie as tie
 
-abbrev Inv-loop : tie.InvT-loop
-Inv-loop n limit count leads points heights class-first class-next slot-first slot-next homes reads read-heights apart levels from order starts entries pairs₀ done₀ notes₀ changed₀ k₀ pairs done notes changed k =
-    (k ≤ count) × SweepingAll (setting n points heights homes reads read-heights apart) leads k changed pairs₀ pairs done₀ done
+slice-aggregate-fill-keys : tie.Need-slice-aggregate-fill-keys
+slice-aggregate-fill-keys c = search needs
 
-abbrev μ-loop : tie.MeasureT-loop
-μ-loop n limit count leads points heights class-first class-next slot-first slot-next homes reads read-heights apart levels from order starts entries pairs₀ done₀ notes₀ changed₀ k₀ pairs done notes changed k = count - k
+slice-aggregate-fill-keys-2 : tie.Need-slice-aggregate-fill-keys-2
+slice-aggregate-fill-keys-2 c = search needs
 
-loop-holds : tie.Need-loop-holds Inv-loop μ-loop
-loop-holds c = (omega arith, sweeping-all-start (c .before .before .before .before .before .before .before .before .before .before .before .before .before .before .before .before .before .before .pre .1 .0 .1))
+fill-keys-requires : tie.Need-fill-keys-requires
+fill-keys-requires c κs = let s = (c .before .before .before .before .before .before .before .before .before .before .before .before .before .before .before .before .before .before .before .before) in let L = s .pre .1 .0 .0 .looks in ((s .pre .1 .0 .0 .reading .few, (s .pre .1 .1, L .homes-long)), (L .homes-below, keys-start refl (length-replicate {A = ℕ} 8 0)))
 
-sweep-row-requires : tie.Need-sweep-row-requires Inv-loop μ-loop
-sweep-row-requires c κs = let s = c .before .before .before .before .before .before .before .before .before .before .before .before .before .before .before .before .before .before .before .before .before .before .before in
-    let L = s .pre .1 .1 in
-    (s .pre .0, ((s .pre .1 .0 .0, c .before .before .before .before .loop .inv .1 .step .kept), record { few = omega (arith, L .few, c .before .before .before .loop-test .taken); long = omega (arith, L .long, c .before .before .before .loop-test .taken); below = λ l h. L .below l (omega (arith, c .before .before .before .loop-test .taken)) }))
+slice-aggregate-chain : tie.Need-slice-aggregate-chain
+slice-aggregate-chain c = search needs
 
-same-length : tie.Need-same-length Inv-loop μ-loop
-same-length c = c .before .before .before .before .before .before .before .sweep-row .ensures .step .grows .long ∙ c .before .before .before .before .before .before .before .before .before .before .before .before .loop .inv .1 .step .grows .long
+slice-aggregate-chain-2 : tie.Need-slice-aggregate-chain-2
+slice-aggregate-chain-2 c = search needs
 
-same-length-2 : tie.Need-same-length-2 Inv-loop μ-loop
-same-length-2 c = c .before .before .before .before .before .before .before .sweep-row .ensures .step .long ∙ c .before .before .before .before .before .before .before .before .before .before .before .before .loop .inv .1 .step .long
+slice-aggregate-chain-3 : tie.Need-slice-aggregate-chain-3
+slice-aggregate-chain-3 c = search needs
 
-returns : tie.Need-returns Inv-loop μ-loop
-returns c = sweeping-all-left (and-true _ _ (c .if1 .taken) .0) (sweeping-all-more (c .before .before .before .before .before .before .before .before .before .before .before .before .loop .inv .1) (c .before .before .before .before .before .before .before .sweep-row .ensures))
+chain-requires : tie.Need-chain-requires
+chain-requires c κs = let s = (c .before .before .before .before .before .before .before .before .before .before .before .before .before .before .before .before .before .before .before .before .before .before .before .before .before .before) in keys-chainable (s .pre .1 .0 .0 .reading .few) ((c .before .before .before .before .before) .fill-keys .ensures) (omega (arith, s .pre .1 .0 .0 .reading .few, length-replicate {A = ℕ} 512 0))
 
-add-k : tie.Need-add-k Inv-loop μ-loop
-add-k c = omega (arith, c .before .before .before .before .before .before .before .before .before .before .before .loop-test .taken, c .before .before .before .before .before .before .before .before .before .before .before .before .before .before .before .before .before .before .before .before .before .before .before .before .before .before .before .before .before .before .before .pre .1 .1 .few)
+slice-aggregate-sweep-rows : tie.Need-slice-aggregate-sweep-rows
+slice-aggregate-sweep-rows c = search needs
 
-loop-less : tie.Need-loop-less Inv-loop μ-loop
-loop-less c = omega (arith, c .before .before .before .before .before .before .before .before .before .before .before .loop-test .taken)
+slice-aggregate-sweep-rows-2 : tie.Need-slice-aggregate-sweep-rows-2
+slice-aggregate-sweep-rows-2 c = search needs
 
-loop-again : tie.Need-loop-again Inv-loop μ-loop
-loop-again c = (omega (arith, c .before .before .before .before .before .before .before .before .before .before .before .loop-test .taken), sweeping-all-more (c .before .before .before .before .before .before .before .before .before .before .before .before .loop .inv .1) (c .before .before .before .before .before .before .before .sweep-row .ensures))
+slice-aggregate-sweep-rows-3 : tie.Need-slice-aggregate-sweep-rows-3
+slice-aggregate-sweep-rows-3 c = search needs
 
-returns-2 : tie.Need-returns-2 Inv-loop μ-loop
-returns-2 c = let e : c .before .loop .k ≡ c .before .before .before .before .before .before .before .before .before .before .before .before .before .before .before .before .before .before .before .before .args .count = omega (arith, c .loop-test .left, c .before .loop .inv .0) in rw e at (c .before .loop .inv .1)
+slice-aggregate-sweep-rows-4 : tie.Need-slice-aggregate-sweep-rows-4
+slice-aggregate-sweep-rows-4 c = search needs
+
+sweep-rows-requires : tie.Need-sweep-rows-requires
+sweep-rows-requires c κs = let s = (c .before .before .before .before .before .before .before .before .before .before .before .before .before .before .before .before .before .before .before .before .before .before .before .before .before .before .before .before .before .before .before .before .before .before .before .before) in (s .pre .0, (s .pre .1 .0, (s .pre .1 .1, ((c .before .before .before .before .before .before .before .before .before .before .before .before .before .before .before) .fill-keys .ensures, (c .before .before .before .before .before .before .before .before .before) .chain .ensures))))
+
+same-length : tie.Need-same-length
+same-length c = search needs
+
+same-length-2 : tie.Need-same-length-2
+same-length-2 c = search needs
+
+returns : tie.Need-returns
+returns c = (c .before .before .before .before) .sweep-rows .ensures
 
 pub sweep-spec : {M : Type 1} → statement M
 sweep-spec =
     tie.close
     (tie.spec
-    Inv-loop
-    μ-loop
-    loop-holds
-    sweep-row-requires
-    (λ c κs. search needs)
+    slice-aggregate-fill-keys
+    slice-aggregate-fill-keys-2
+    fill-keys-requires
+    slice-aggregate-chain
+    slice-aggregate-chain-2
+    slice-aggregate-chain-3
+    chain-requires
+    slice-aggregate-sweep-rows
+    slice-aggregate-sweep-rows-2
+    slice-aggregate-sweep-rows-3
+    slice-aggregate-sweep-rows-4
+    sweep-rows-requires
     same-length
     same-length-2
-    returns
-    add-k
-    loop-less
-    loop-again
-    (λ c. c .before .loop .inv .1 .step .grows .long)
-    (λ c. c .before .loop .inv .1 .step .long)
-    returns-2)
+    returns)

@@ -6,7 +6,7 @@ use Rattle.differences.proofs.settling.sweep_all.Tie as tie
 
 abbrev Inv-loop : tie.InvT-loop
 Inv-loop n count leads points heights class-first class-next slot-first slot-next homes reads read-heights apart levels from order starts entries pairs₀ done₀ notes₀ again₀ pairs done notes again =
-    Looking (setting n points heights homes reads read-heights apart) leads count again pairs₀ pairs done₀ done
+    Looking (setting n points heights homes reads read-heights apart) count leads again pairs₀ pairs done₀ done
 
 abbrev μ-loop : tie.MeasureT-loop
 μ-loop n count leads points heights class-first class-next slot-first slot-next homes reads read-heights apart levels from order starts entries pairs₀ done₀ notes₀ again₀ pairs done notes again = left n again done
