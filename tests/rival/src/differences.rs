@@ -7,6 +7,7 @@
 //! pair table are the same.
 
 use crate::closure::Closure;
+use crate::distances::Distances;
 use crate::Column;
 use second_solver::tables::{
     Input, BLOCK_DISEQUALITY, DIFFERENT, DISEQUALITY, EQUAL, LIMIT, NEITHER, VARIABLE,
@@ -32,12 +33,17 @@ fn add_all(mask: &mut Mask, other: &Mask) {
     }
 }
 
-/// Slots of the hash tables.
-const SLOTS: usize = 2 * LIMIT;
+/// Slots of the hash tables. Most of what is looked up is not there, so most
+/// are empty.
+const SLOTS: usize = 8 * LIMIT;
 
-fn slot_of(class: usize, offset: i64) -> usize {
-    let key = (offset as u64).wrapping_add((class as u64) << 48);
+fn slot_of(key: u64) -> usize {
     (key.wrapping_mul(0x9e37_79b9_7f4a_7c15) >> (64 - SLOTS.ilog2())) as usize
+}
+
+/// A class and an offset, which takes less than 48 bits, in one number.
+fn key_of(class: usize, offset: i64) -> u64 {
+    ((class as u64) << 48) | (offset as u64 & ((1 << 48) - 1))
 }
 
 pub struct Differences<'a> {
@@ -47,9 +53,10 @@ pub struct Differences<'a> {
     apart: Column<Mask>,
     /// By term: its place.
     place: Column<u16>,
-    /// By place: its terms, the row of the pair table, the next place of the
-    /// class, the first dereference with its value there.
+    /// By place: its terms, whether it has one alone, the row of the pair table,
+    /// the next place of the class, the first dereference with its value there.
     terms: Column<Mask>,
+    single: Column<bool>,
     row: Column<Mask>,
     next_place: Column<u16>,
     first_read: Column<u16>,
@@ -59,8 +66,10 @@ pub struct Differences<'a> {
     first_place: Column<u16>,
     lowest: Column<i64>,
     highest: Column<i64>,
-    /// Places at offsets other than 0, plus one, in open addressing.
+    /// Places at offsets other than 0, plus one, in open addressing, and their
+    /// keys.
     place_slots: [u16; SLOTS],
+    place_key: Column<u64>,
     /// One dereference for each address that is read.
     reads: Mask,
     /// By such a dereference: the address, the next with its value at the same
@@ -78,6 +87,7 @@ pub struct Differences<'a> {
     listed: [(u16, u16, i64); LIMIT],
     listed_count: usize,
     listed_slots: [u16; SLOTS],
+    distances: Distances,
 }
 
 impl Differences<'_> {
@@ -89,6 +99,7 @@ impl Differences<'_> {
             apart: [[0; WORDS]; LIMIT],
             place: [0; LIMIT],
             terms: [[0; WORDS]; LIMIT],
+            single: [false; LIMIT],
             row: [[0; WORDS]; LIMIT],
             next_place: [NONE; LIMIT],
             first_read: [NONE; LIMIT],
@@ -97,6 +108,7 @@ impl Differences<'_> {
             lowest: [0; LIMIT],
             highest: [0; LIMIT],
             place_slots: [0; SLOTS],
+            place_key: [0; LIMIT],
             reads: [0; WORDS],
             address_class: [0; LIMIT],
             address: [0; LIMIT],
@@ -107,6 +119,7 @@ impl Differences<'_> {
             listed: [(0, 0, 0); LIMIT],
             listed_count: 0,
             listed_slots: [0; SLOTS],
+            distances: Distances::new(),
         }
     }
 
@@ -146,6 +159,7 @@ impl Differences<'_> {
                 Ok(p) => p,
                 Err(slot) => {
                     self.place_slots[slot] = t as u16 + 1;
+                    self.place_key[t] = key_of(c, offset);
                     self.next_place[t] = std::mem::replace(&mut self.first_place[c], t as u16);
                     self.lowest[c] = self.lowest[c].min(offset);
                     self.highest[c] = self.highest[c].max(offset);
@@ -154,7 +168,11 @@ impl Differences<'_> {
             };
             self.place[t] = p as u16;
             add(&mut self.terms[p], t);
+            self.single[p] = p == t;
             self.places[c] += u16::from(p == t);
+        }
+        for c in 0..n {
+            self.distances.note(c, self.places[c]);
         }
     }
 
@@ -163,17 +181,13 @@ impl Differences<'_> {
         if offset == 0 {
             return Ok(c);
         }
-        let mut slot = slot_of(c, offset);
+        let key = key_of(c, offset);
+        let mut slot = slot_of(key);
         loop {
             match self.place_slots[slot] {
                 0 => return Err(slot),
-                p => {
-                    let p = usize::from(p) - 1;
-                    if self.closure.root(p) == c && self.closure.offset(p) == offset {
-                        return Ok(p);
-                    }
-                    slot = (slot + 1) % SLOTS;
-                }
+                p if self.place_key[usize::from(p) - 1] == key => return Ok(usize::from(p) - 1),
+                _ => slot = (slot + 1) % SLOTS,
             }
         }
     }
@@ -268,7 +282,7 @@ impl Differences<'_> {
 
     /// Whether the fact is listed; if not, the slot for it.
     fn seek_listed(&self, c1: usize, c2: usize, e: i64) -> Result<(), usize> {
-        let mut slot = slot_of(c1 * LIMIT + c2, e);
+        let mut slot = slot_of(key_of(c1, e).wrapping_add((c2 as u64) << 39));
         loop {
             match self.listed_slots[slot] {
                 0 => return Err(slot),
@@ -328,39 +342,83 @@ impl Differences<'_> {
         }
     }
 
-    /// As `learn`, where both classes have several places.
+    /// As `learn`, where both classes have several places. Pairs at one distance
+    /// are told together.
     fn follow(&mut self, c1: usize, c2: usize, e: i64) {
-        if self.places[c1] > self.places[c2] {
+        if c1 > c2 {
             return self.follow(c2, c1, -e);
         }
-        let mut p1 = c1;
-        loop {
-            if let Some(p2) = self.place_at(c2, self.closure.offset(p1) + e) {
-                // pairs at one distance are told together
-                if has(&self.row[p1], p2) {
+        if let Some(table) = self.distances.table(c1, c2) {
+            let mut pair = self.distances.pair(table, e, None);
+            while let Some(of) = pair {
+                if !self.tell(of.first.into(), of.second.into()) {
                     return;
                 }
-                self.tell(p1, p2);
+                pair = self.distances.pair(table, e, pair);
             }
-            p1 = match self.next_place[p1] {
-                NONE if p1 == c1 => self.first_place[c1].into(),
-                NONE => return,
-                next => next.into(),
+            return;
+        }
+        let swapped = self.places[c1] > self.places[c2];
+        let (few, many, e) = if swapped { (c2, c1, -e) } else { (c1, c2, e) };
+        let (mut p1, mut steps) = (few, 1);
+        loop {
+            if let Some(p2) = self.place_at(many, self.closure.offset(p1) + e) {
+                if !self.tell(p1, p2) {
+                    break;
+                }
+            }
+            let Some(next) = self.next_place(few, p1) else {
+                break;
             };
+            (p1, steps) = (next, steps + 1);
+        }
+        let pairs = usize::from(self.places[c1]) * usize::from(self.places[c2]);
+        if self.distances.count(c1, c2, steps, pairs) {
+            self.tabulate(c1, c2);
         }
     }
 
-    /// The terms at two places are different.
-    fn tell(&mut self, p1: usize, p2: usize) {
-        if has(&self.row[p1], p2) {
-            return;
+    /// Fills the table of two classes.
+    fn tabulate(&mut self, c1: usize, c2: usize) {
+        let mut first = Some(c1);
+        while let Some(p1) = first {
+            let mut second = Some(c2);
+            while let Some(p2) = second {
+                let distance = self.closure.offset(p2) - self.closure.offset(p1);
+                self.distances.add(distance, p1, p2);
+                second = self.next_place(c2, p2);
+            }
+            first = self.next_place(c1, p1);
         }
-        add_all(&mut self.row[p1], &self.terms[p2]);
-        add_all(&mut self.row[p2], &self.terms[p1]);
+    }
+
+    /// The place of a class after this one. The first is the representative's.
+    fn next_place(&self, c: usize, p: usize) -> Option<usize> {
+        let next = if p == c {
+            self.first_place[c]
+        } else {
+            self.next_place[p]
+        };
+        (next != NONE).then_some(next.into())
+    }
+
+    /// The terms at two places are different; false if that was known.
+    fn tell(&mut self, p1: usize, p2: usize) -> bool {
+        if has(&self.row[p1], p2) {
+            return false;
+        }
+        for (p1, p2) in [(p1, p2), (p2, p1)] {
+            if self.single[p2] {
+                add(&mut self.row[p1], p2);
+            } else {
+                add_all(&mut self.row[p1], &self.terms[p2]);
+            }
+        }
         if self.first_read[p1] != NONE && self.first_read[p2] != NONE {
             add(&mut self.fresh, p1);
             add(&mut self.fresh, p2);
         }
+        true
     }
 
     /// Writes the pair bits: row i begins at bit i × n.

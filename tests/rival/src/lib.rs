@@ -14,6 +14,7 @@
 
 mod closure;
 mod differences;
+mod distances;
 mod refusals;
 
 use closure::Closure;
