@@ -220,10 +220,6 @@ impl Closure {
         self.offset[t]
     }
 
-    pub fn offsets(&self, n: usize) -> &[i64] {
-        &self.offset[..n]
-    }
-
     /// The dereferences over a class, one for each address that is read.
     pub fn reads(&self, root: usize) -> impl Iterator<Item = usize> + '_ {
         let first = self.first[usize::from(self.list[root])];

@@ -33,6 +33,10 @@ fn add_all(mask: &mut Mask, other: &Mask) {
     }
 }
 
+fn without(mask: &Mask, other: &Mask) -> Mask {
+    std::array::from_fn(|w| mask[w] & !other[w])
+}
+
 /// Slots of the hash tables. Most of what is looked up is not there, so most
 /// are empty.
 const SLOTS: usize = 8 * LIMIT;
@@ -130,9 +134,8 @@ impl Differences<'_> {
         for p in 0..input.n {
             if usize::from(self.place[p]) == p {
                 let c = self.closure.root(p);
-                for w in 0..WORDS {
-                    self.row[p][w] = self.members[c][w] & !self.terms[p][w] | self.apart[c][w];
-                }
+                self.row[p] = without(&self.members[c], &self.terms[p]);
+                add_all(&mut self.row[p], &self.apart[c]);
             }
         }
         self.note_listed(input);
@@ -171,9 +174,7 @@ impl Differences<'_> {
             self.single[p] = p == t;
             self.places[c] += u16::from(p == t);
         }
-        for c in 0..n {
-            self.distances.note(c, self.places[c]);
-        }
+        self.distances.number(&self.places[..n]);
     }
 
     /// The place at an offset of a class, or the slot for it.
@@ -204,28 +205,21 @@ impl Differences<'_> {
             add_all(&mut over_variables, &over[c]);
         }
         for c in 0..input.n {
-            self.others[c] = over[c];
+            self.others[c] = without(&self.reads, &over[c]);
         }
         for t in variables() {
             let c = self.closure.root(t);
-            for w in 0..WORDS {
-                self.apart[c][w] = of_variables[w] & !self.members[c][w];
-            }
-            self.others[c] = over_variables;
+            self.apart[c] = without(&of_variables, &self.members[c]);
+            self.others[c] = without(&self.reads, &over_variables);
         }
         for record in &input.propositions[..input.m] {
             if record.kind == BLOCK_DISEQUALITY {
                 let c1 = self.closure.root(record.left as usize);
                 let c2 = self.closure.root(record.right as usize);
-                add_all(&mut self.apart[c1], &self.members[c2]);
-                add_all(&mut self.apart[c2], &self.members[c1]);
-                add_all(&mut self.others[c1], &over[c2]);
-                add_all(&mut self.others[c2], &over[c1]);
-            }
-        }
-        for c in 0..input.n {
-            for w in 0..WORDS {
-                self.others[c][w] = self.reads[w] & !self.others[c][w];
+                for (c1, c2) in [(c1, c2), (c2, c1)] {
+                    add_all(&mut self.apart[c1], &self.members[c2]);
+                    self.others[c1] = without(&self.others[c1], &over[c2]);
+                }
             }
         }
     }

@@ -7,8 +7,6 @@ use second_solver::tables::LIMIT;
 
 /// A class is large if it has so many places; the others are searched.
 const LARGE: u16 = 8;
-/// Most large classes, and 0 for the others.
-const NUMBERS: usize = LIMIT / LARGE as usize + 1;
 /// A table takes about as long for each pair of places as so many steps of a
 /// search.
 const STEPS: usize = 2;
@@ -35,11 +33,10 @@ struct Table {
 pub struct Distances {
     /// By class: the number of a large class, from 1.
     number: Column<u8>,
-    numbers: u8,
-    /// By the numbers of two classes, the lower class first: the steps of
+    numbers: usize,
+    /// By the numbers of two large classes, the lower class first: the steps of
     /// searches so far, and the table.
-    steps: [[u32; NUMBERS]; NUMBERS],
-    table: [[u16; NUMBERS]; NUMBERS],
+    between: Vec<(u32, u16)>,
     tables: Vec<Table>,
 }
 
@@ -49,36 +46,43 @@ impl Distances {
         Distances {
             number: [0; LIMIT],
             numbers: 0,
-            steps: [[0; NUMBERS]; NUMBERS],
-            table: [[SEARCHED; NUMBERS]; NUMBERS],
+            between: Vec::new(),
             tables: Vec::new(),
         }
     }
 
-    /// Notes a class with so many places.
-    pub fn note(&mut self, c: usize, places: u16) {
-        if places >= LARGE {
-            self.numbers += 1;
-            self.number[c] = self.numbers;
+    /// Numbers the large classes.
+    pub fn number(&mut self, places: &[u16]) {
+        for (c, &places) in places.iter().enumerate() {
+            if places >= LARGE {
+                self.numbers += 1;
+                self.number[c] = self.numbers as u8;
+            }
+        }
+        if self.numbers > 1 {
+            self.between
+                .resize(self.numbers * self.numbers, (0, SEARCHED));
         }
     }
 
-    fn numbers_of(&self, c1: usize, c2: usize) -> (usize, usize) {
-        (self.number[c1].into(), self.number[c2].into())
+    /// Where two large classes stand in `between`.
+    fn index(&self, c1: usize, c2: usize) -> Option<usize> {
+        let (k1, k2) = (usize::from(self.number[c1]), usize::from(self.number[c2]));
+        (k1 != 0 && k2 != 0).then(|| (k1 - 1) * self.numbers + k2 - 1)
     }
 
     /// Counts the steps of a search, and tells whether a table of so many pairs
-    /// should be made, which is then to be filled by `add`.
+    /// has been made, which is then to be filled by `add`.
     pub fn count(&mut self, c1: usize, c2: usize, steps: usize, pairs: usize) -> bool {
-        let (k1, k2) = self.numbers_of(c1, c2);
-        if k1 == 0 || k2 == 0 {
+        let Some(index) = self.index(c1, c2) else {
+            return false;
+        };
+        let (all, table) = &mut self.between[index];
+        *all += steps as u32;
+        if *all as usize <= STEPS * pairs {
             return false;
         }
-        self.steps[k1][k2] += steps as u32;
-        if (self.steps[k1][k2] as usize) <= STEPS * pairs {
-            return false;
-        }
-        self.table[k1][k2] = self.tables.len() as u16;
+        *table = self.tables.len() as u16;
         let bits = (2 * pairs).ilog2();
         self.tables.push(Table {
             shift: 64 - bits,
@@ -104,8 +108,7 @@ impl Distances {
 
     /// The table of two classes.
     pub fn table(&self, c1: usize, c2: usize) -> Option<usize> {
-        let (k1, k2) = self.numbers_of(c1, c2);
-        let table = self.table[k1][k2];
+        let (_, table) = self.between[self.index(c1, c2)?];
         (table != SEARCHED).then_some(table.into())
     }
 

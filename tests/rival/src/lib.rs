@@ -52,8 +52,8 @@ pub fn solve(input: &Input, lent: &mut Lent) -> Outcome {
     if closure.close(input) {
         for t in 0..n {
             lent.representatives[t] = closure.root(t) as u32;
+            lent.offsets[t] = closure.offset(t);
         }
-        lent.offsets[..n].copy_from_slice(closure.offsets(n));
         let mut differences = Differences::new(&closure);
         differences.find(input);
         differences.write_pairs(n, pair_bits);
