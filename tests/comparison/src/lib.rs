@@ -3,6 +3,7 @@
 pub mod calls;
 pub mod cases;
 pub mod count;
+pub mod full;
 pub mod memory;
 pub mod odd;
 pub mod proved;

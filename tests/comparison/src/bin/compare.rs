@@ -10,7 +10,7 @@ use comparison::calls::{Call, Given};
 use comparison::count::{watched, Count};
 use comparison::memory::{any_tables, guarded, Held, GUARD};
 use comparison::odd::{self, Field};
-use comparison::{proved, sets};
+use comparison::{full, proved, sets};
 use second_solver::memory::Memory;
 use second_solver::reader::{self, Tables};
 use second_solver::support::{damage_text, Numbers, Set};
@@ -39,7 +39,7 @@ fn written(found: &Tables, mut lent: Tables) -> Tables {
     lent
 }
 
-fn full(r: &mut Numbers, k: usize) -> Set {
+fn full_of_a_kind(r: &mut Numbers, k: usize) -> Set {
     let mut set = match k % 6 {
         0 => sets::chains(512),
         1 => sets::tied_chains(512),
@@ -276,8 +276,11 @@ fn compare_sets(run: &mut Run, r: &mut Numbers) {
         let set = sets::leading_full(r, k);
         run.set(r, "full leading", &set, 0);
     }
+    for k in 0..full::COUNT {
+        run.set(r, "full with chains", &full::full(k).set, 0);
+    }
     for k in 0..200 {
-        let mut set = full(r, k);
+        let mut set = full_of_a_kind(r, k);
         run.set(r, "full", &set, 0);
         odd::several(r, &mut set);
         run.set(r, "full odd", &set, 0);
