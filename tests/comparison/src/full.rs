@@ -1,5 +1,5 @@
-//! The 200 full sets of request R-11: 512 terms, propositions and questions each, with two chains of at least 200 dereferences that E4 alone
-//! makes equal. They are made from fixed seeds and pinned: `full_sets.txt` has a digest of each set's text.
+//! The 200 full sets of request R-11: 512 terms, propositions and questions each, with two chains of at least 200 dereferences that E4
+//! alone makes equal. They are made from fixed seeds and pinned: `full_sets.txt` has a digest of each set's text.
 //!
 //! All but two propositions at the ends of the chains hold in a model: a block and a position for each term, and for each address what is
 //! read there. The starts of the chains are equal by one proposition. Without it every set is satisfiable; with it a quarter of them are

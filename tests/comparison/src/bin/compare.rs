@@ -277,7 +277,7 @@ fn compare_sets(run: &mut Run, r: &mut Numbers) {
         run.set(r, "full leading", &set, 0);
     }
     for k in 0..full::COUNT {
-        run.set(r, "full with chains", &full::full(k).set, 0);
+        run.set(&mut Numbers(1 + k as u64), "full with chains", &full::full(k).set, 0);
     }
     for k in 0..200 {
         let mut set = full_of_a_kind(r, k);
