@@ -17,7 +17,11 @@ const NONE: u16 = u16::MAX;
 const WORDS: usize = LIMIT / 64;
 
 /// A set of terms.
-pub type Mask = [u64; WORDS];
+type Mask = [u64; WORDS];
+
+/// Room for the masks of `Differences`, which is not moved: it is large.
+pub type Masks = [Column<Mask>; 7];
+pub const NO_MASKS: Masks = [[[0; WORDS]; LIMIT]; 7];
 
 fn add(mask: &mut Mask, t: usize) {
     mask[t / 64] |= 1 << (t % 64);
@@ -53,15 +57,15 @@ fn key_of(class: usize, offset: i64) -> u64 {
 pub struct Differences<'a> {
     closure: &'a Closure,
     /// By class: its terms, and those of the classes apart from it.
-    members: Column<Mask>,
-    apart: Column<Mask>,
+    members: &'a mut Column<Mask>,
+    apart: &'a mut Column<Mask>,
     /// By term: its place.
     place: Column<u16>,
     /// By place: its terms, whether it has one alone, the row of the pair table,
     /// the next place of the class, the first dereference with its value there.
-    terms: Column<Mask>,
+    terms: &'a mut Column<Mask>,
     single: Column<bool>,
-    row: Column<Mask>,
+    row: &'a mut Column<Mask>,
     next_place: Column<u16>,
     first_read: Column<u16>,
     /// By class: the number of its places, the first after the representative's,
@@ -81,10 +85,11 @@ pub struct Differences<'a> {
     address_class: Column<u16>,
     address: Column<i64>,
     next_read: Column<u16>,
-    compared: Column<Mask>,
-    /// By class: the dereferences over classes that are neither it nor apart
-    /// from it.
-    others: Column<Mask>,
+    compared: &'a mut Column<Mask>,
+    /// By class: the dereferences over it, and those over classes that are
+    /// neither it nor apart from it.
+    over: &'a mut Column<Mask>,
+    others: &'a mut Column<Mask>,
     /// Places with new bits in their rows that may lead to further facts.
     fresh: Mask,
     /// The listed facts, and the slot of each in open addressing.
@@ -95,16 +100,18 @@ pub struct Differences<'a> {
 }
 
 impl Differences<'_> {
+    /// No differences; all masks are empty.
     #[inline(always)]
-    pub fn new(closure: &Closure) -> Differences<'_> {
+    pub fn new<'a>(closure: &'a Closure, masks: &'a mut Masks) -> Differences<'a> {
+        let [members, apart, terms, row, compared, over, others] = masks;
         Differences {
             closure,
-            members: [[0; WORDS]; LIMIT],
-            apart: [[0; WORDS]; LIMIT],
+            members,
+            apart,
             place: [0; LIMIT],
-            terms: [[0; WORDS]; LIMIT],
+            terms,
             single: [false; LIMIT],
-            row: [[0; WORDS]; LIMIT],
+            row,
             next_place: [NONE; LIMIT],
             first_read: [NONE; LIMIT],
             places: [0; LIMIT],
@@ -117,8 +124,9 @@ impl Differences<'_> {
             address_class: [0; LIMIT],
             address: [0; LIMIT],
             next_read: [NONE; LIMIT],
-            compared: [[0; WORDS]; LIMIT],
-            others: [[0; WORDS]; LIMIT],
+            compared,
+            over,
+            others,
             fresh: [0; WORDS],
             listed: [(0, 0, 0); LIMIT],
             listed_count: 0,
@@ -195,17 +203,16 @@ impl Differences<'_> {
 
     /// Notes the dereferences, and which classes are apart.
     fn note_apart(&mut self, input: &Input) {
-        let mut over = [[0; WORDS]; LIMIT];
-        self.note_reads(input, &mut over);
+        self.note_reads(input);
         let (mut of_variables, mut over_variables) = ([0; WORDS], [0; WORDS]);
         let variables = || (0..input.n).filter(|&t| input.terms[t].kind == VARIABLE);
         for t in variables() {
             let c = self.closure.root(t);
             add_all(&mut of_variables, &self.members[c]);
-            add_all(&mut over_variables, &over[c]);
+            add_all(&mut over_variables, &self.over[c]);
         }
         for c in 0..input.n {
-            self.others[c] = without(&self.reads, &over[c]);
+            self.others[c] = without(&self.reads, &self.over[c]);
         }
         for t in variables() {
             let c = self.closure.root(t);
@@ -218,14 +225,14 @@ impl Differences<'_> {
                 let c2 = self.closure.root(record.right as usize);
                 for (c1, c2) in [(c1, c2), (c2, c1)] {
                     add_all(&mut self.apart[c1], &self.members[c2]);
-                    self.others[c1] = without(&self.others[c1], &over[c2]);
+                    self.others[c1] = without(&self.others[c1], &self.over[c2]);
                 }
             }
         }
     }
 
     /// Notes the dereferences, one for each address, and those over each class.
-    fn note_reads(&mut self, input: &Input, over: &mut Column<Mask>) {
+    fn note_reads(&mut self, input: &Input) {
         for c in 0..input.n {
             if self.closure.root(c) != c {
                 continue;
@@ -237,7 +244,7 @@ impl Differences<'_> {
                 let p = usize::from(self.place[d]);
                 self.next_read[d] = std::mem::replace(&mut self.first_read[p], d as u16);
                 add(&mut self.reads, d);
-                add(&mut over[c], d);
+                add(&mut self.over[c], d);
                 add(&mut self.fresh, p);
             }
         }

@@ -18,7 +18,7 @@ mod distances;
 mod refusals;
 
 use closure::Closure;
-use differences::Differences;
+use differences::{Differences, NO_MASKS};
 use second_solver::tables::{pair_bytes, Input, Lent, Outcome, CONTRADICTORY, LIMIT};
 
 /// A cell for each term.
@@ -54,7 +54,8 @@ pub fn solve(input: &Input, lent: &mut Lent) -> Outcome {
             lent.representatives[t] = closure.root(t) as u32;
             lent.offsets[t] = closure.offset(t);
         }
-        let mut differences = Differences::new(&closure);
+        let mut masks = NO_MASKS;
+        let mut differences = Differences::new(&closure, &mut masks);
         differences.find(input);
         differences.write_pairs(n, pair_bits);
         differences.answer(input, answers);
