@@ -6,6 +6,7 @@ pub mod count;
 pub mod full;
 pub mod memory;
 pub mod odd;
+pub mod plot;
 pub mod proved;
 pub mod sets;
 pub mod texts;
