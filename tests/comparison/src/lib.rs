@@ -3,8 +3,10 @@
 pub mod calls;
 pub mod cases;
 pub mod count;
+pub mod full;
 pub mod memory;
 pub mod odd;
+pub mod plot;
 pub mod proved;
 pub mod sets;
 pub mod texts;

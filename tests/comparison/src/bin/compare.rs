@@ -1,7 +1,8 @@
 //! Compares the proved solver with the second solver: small sets, whole, damaged and with odd values in every field, small and full sets
-//! in which differences lead on, and other full sets, each with blame and without. Every returned value and every lent cell is compared, and so are the cells before those lent, the tables and the verdict alone; past
-//! each table and lent array is a closed page. Then both readers on small texts, whole and damaged, and full ones. Last line:
-//! "N passed, M failed".
+//! in which differences lead on, the 200 full sets with long chains, and other full sets, each with blame and without. Every returned value
+//! and every lent cell is compared, and so are the cells before those lent, the tables and the verdict alone; past each table and lent
+//! array is a closed page. The rival is compared with the second solver on each set, too, without blame. Then both readers on small texts,
+//! whole and damaged, and full ones. Last line: "N passed, M failed".
 //!
 //! `compare FILE` makes the one call of a call file and prints what both leave.
 
@@ -9,7 +10,7 @@ use comparison::calls::{Call, Given};
 use comparison::count::{watched, Count};
 use comparison::memory::{any_tables, guarded, Held, GUARD};
 use comparison::odd::{self, Field};
-use comparison::{proved, sets};
+use comparison::{full, proved, sets};
 use second_solver::memory::Memory;
 use second_solver::reader::{self, Tables};
 use second_solver::support::{damage_text, Numbers, Set};
@@ -38,7 +39,7 @@ fn written(found: &Tables, mut lent: Tables) -> Tables {
     lent
 }
 
-fn full(r: &mut Numbers, k: usize) -> Set {
+fn full_of_a_kind(r: &mut Numbers, k: usize) -> Set {
     let mut set = match k % 6 {
         0 => sets::chains(512),
         1 => sets::tied_chains(512),
@@ -111,26 +112,26 @@ impl Shown for Read {
     }
 }
 
-/// All that both leave, each part once where it is the same.
-fn in_full(ours: &impl Shown, theirs: &impl Shown) -> String {
+/// All that a solver and the second leave, each part once where it is the same.
+fn in_full(solver: &str, ours: &impl Shown, theirs: &impl Shown) -> String {
     let line = |whose: &str, (name, first, cells): &Part| {
         let from = if cells.len() == 1 { "".into() } else { format!(" from {first}") };
         format!("{whose}, {name}{from}: {}\n", cells.join(" "))
     };
     let both = |(ours, theirs)| match ours == theirs {
         true => line("both", &ours),
-        false => line("proved", &ours) + &line("second", &theirs),
+        false => line(solver, &ours) + &line("second", &theirs),
     };
     ours.shown().into_iter().zip(theirs.shown()).map(both).collect()
 }
 
 /// The first unlike cell of each part.
-fn unlike(ours: &impl Shown, theirs: &impl Shown) -> Vec<String> {
+fn unlike(solver: &str, ours: &impl Shown, theirs: &impl Shown) -> Vec<String> {
     let mut unlike = Vec::new();
     for ((name, first, ours), (_, _, theirs)) in ours.shown().into_iter().zip(theirs.shown()) {
         if let Some(k) = (0..ours.len()).find(|&k| ours[k] != theirs[k]) {
             let at = if ours.len() == 1 { "".into() } else { format!(" {}", first + k as isize) };
-            unlike.push(format!("{name}{at}: proved {}, second {}", ours[k], theirs[k]));
+            unlike.push(format!("{name}{at}: {solver} {}, second {}", ours[k], theirs[k]));
         }
     }
     unlike
@@ -151,19 +152,25 @@ impl Run {
         Run { count, alone, held: Held::default(), verdicts: [0; 2], refusals: [0; 11], texts: [0; 11] }
     }
 
-    /// Counts a call as passed if both leave the same and nothing else is wrong.
-    fn judge<A: Shown + PartialEq>(&mut self, name: &str, ours: &A, theirs: &A, wrong: Option<&str>, call: impl FnOnce() -> Call) {
+    /// Counts a call as passed if a solver leaves the same as the second and nothing else is wrong.
+    fn judge<A: Shown + PartialEq>(
+        &mut self,
+        name: &str,
+        [(solver, ours), (_, theirs)]: [(&str, &A); 2],
+        wrong: Option<&str>,
+        call: impl FnOnce() -> Call,
+    ) {
         if self.alone {
-            print!("{}", in_full(ours, theirs));
+            print!("{}", in_full(solver, ours, theirs));
         }
         let result = match wrong {
             None if ours == theirs => Ok(()),
-            _ => Err(wrong.map(String::from).into_iter().chain(unlike(ours, theirs)).collect::<Vec<_>>().join("; ")),
+            _ => Err(wrong.map(String::from).into_iter().chain(unlike(solver, ours, theirs)).collect::<Vec<_>>().join("; ")),
         };
         self.count.add(name, result, |stem| call().keep(stem));
     }
 
-    /// Both solvers on a set, with `more` cells lent beyond what is needed, without blame and with it, on the same lent memory. Returns
+    /// The solvers on a set, with `more` cells lent beyond what is needed, without blame and with it, on the same lent memory. Returns
     /// the number of the refusal or 0.
     fn set(&mut self, r: &mut Numbers, name: &str, set: &Set, more: usize) -> usize {
         let asking = r.one_of(&ASKING);
@@ -178,17 +185,18 @@ impl Run {
         number
     }
 
-    /// Both solvers on a set, with this number for blame. Returns the outcome.
+    /// The solvers on a set, with this number for blame; the rival if it asks for none. Returns the outcome.
     fn call(&mut self, r: &mut Numbers, name: &str, set: &Set, more: usize, blame: usize) -> Outcome {
         let seed = r.0;
         let call = || Call { seed, given: Given::Set { set: set.clone(), more, blame } };
         self.count.record(|stem| call().keep(stem));
         let before = guarded(r, set.cells(more));
-        let (mut left, mut right) = (before.clone(), before.clone());
+        let [mut left, mut right, mut third] = [before.clone(), before.clone(), before.clone()];
         let solve = |input: &Input, lent: &mut Lent| solve_proved(input, blame, lent);
         let (outcomes, tables_kept) = self.held.solve(&set.input(), &mut left, solve);
         let outcome = tables::solve(&set.input(), proved::blame(blame), &mut right.lent_after(GUARD));
-        let alone = tables::verdict_only(&Input { q: 0, ..set.input() });
+        let unasked = Input { q: 0, ..set.input() };
+        let alone = tables::verdict_only(&unasked);
         let refused = matches!(outcome, Outcome::Refused { .. });
         let wrong = match () {
             _ if !tables_kept => Some("the tables are changed"),
@@ -196,7 +204,12 @@ impl Run {
             _ => None,
         };
         let (ours, theirs) = (Solved { outcomes, memory: left }, Solved { outcomes: [outcome, alone], memory: right });
-        self.judge(name, &ours, &theirs, wrong, call);
+        self.judge(name, [("proved", &ours), ("second", &theirs)], wrong, call);
+        if blame == proved::NO_BLAME {
+            let outcomes = [rival::solve(&set.input(), &mut third.lent_after(GUARD)), rival::verdict(&unasked)];
+            let rivals = Solved { outcomes, memory: third };
+            self.judge(&format!("{name}, rival"), [("rival", &rivals), ("second", &theirs)], None, call);
+        }
         outcome
     }
 
@@ -230,7 +243,7 @@ impl Run {
         };
         self.texts[theirs.result.map_or_else(|(number, _)| number.into(), |_| 0)] += 1;
         let wrong = Some("the text is changed").filter(|_| !text_kept);
-        self.judge("text", &ours, &theirs, wrong, call);
+        self.judge("text", [("proved", &ours), ("second", &theirs)], wrong, call);
     }
 }
 
@@ -263,8 +276,11 @@ fn compare_sets(run: &mut Run, r: &mut Numbers) {
         let set = sets::leading_full(r, k);
         run.set(r, "full leading", &set, 0);
     }
+    for k in 0..full::COUNT {
+        run.set(&mut Numbers(1 + k as u64), "full with chains", &full::full(k).set, 0);
+    }
     for k in 0..200 {
-        let mut set = full(r, k);
+        let mut set = full_of_a_kind(r, k);
         run.set(r, "full", &set, 0);
         odd::several(r, &mut set);
         run.set(r, "full odd", &set, 0);
