@@ -129,41 +129,49 @@ module _ (S : Set) where
   }
 
   -- a run that can be dropped, or is empty, is
-  module _ (good : AcceptedSet S) (marks : List ℕ) (from k : ℕ) (t : Trying S marks k) (ordered : from ≤ k) (drops : from < k → isDroppable S marks from k ≡ true) where
-    abbrev less : List ℕ
-    less = setRun marks from k 0
+  module _
+      (good : AcceptedSet S) (marks : List ℕ) (from k : ℕ) (t : Trying S marks k)
+      (ordered : from ≤ k) (drops : from < k → isDroppable S marks from k ≡ true)
+    where
+      abbrev less : List ℕ
+      less = setRun marks from k 0
 
-    long : k ≤ length marks
-    long = omega (arith, t .within, t .count)
+      long : k ≤ length marks
+      long = omega (arith, t .within, t .count)
 
-    run-bits : (j : ℕ) → j < S .propositions → getD less j 0 ≡ bitValue (isKept less j)
-    run-bits j h = go (ltb j from) refl (ltb j k) refl
-      where
-        go : (a : Bool) → ltb j from ≡ a → (b : Bool) → ltb j k ≡ b → getD less j 0 ≡ bitValue (isKept less j)
-        go true e b f = rw (run-below marks from k 0 ordered long j 0 (ltb-true j from e)) (t .bits j h)
-        go false e true f = let g = ltb-false j from e in rw (run-inside marks from k 0 ordered long j 0 (omega arith) (ltb-true j k f))
-        go false e false f = let g = ltb-false j k f in rw (run-above marks from k 0 ordered long j 0 (omega arith)) (t .bits j h)
+      run-bits : (j : ℕ) → j < S .propositions → getD less j 0 ≡ bitValue (isKept less j)
+      run-bits j h = go (ltb j from) refl (ltb j k) refl
+        where
+          go : (a : Bool) → ltb j from ≡ a → (b : Bool) → ltb j k ≡ b → getD less j 0 ≡ bitValue (isKept less j)
+          go true e b f = rw (run-below marks from k 0 ordered long j 0 (ltb-true j from e)) (t .bits j h)
+          go false e true f = let g = ltb-false j from e in rw (run-inside marks from k 0 ordered long j 0 (omega arith) (ltb-true j k f))
+          go false e false f = let g = ltb-false j k f in rw (run-above marks from k 0 ordered long j 0 (omega arith)) (t .bits j h)
 
-    run-rest : dropBelow (termsIn S) (propositionsIn S) from (keptOf S less) ≡ blame (termsIn S) (propositionsIn S)
-    unfolding isDroppable
-    run-rest =
-        let e : from + (k - from) ≡ k = omega arith in
-        let is = kept-run S marks from k ordered (t .within) (t .count) in
-        let c : 0 < k - from → keptContradictory (termsIn S) (propositionsIn S) (setRun (keptOf S marks) from (from + (k - from)) false) ≡ true =
-        λ h. rw (e, ← is) (drops (omega arith)) in
-        let d = drop-run (termsIn S) (propositionsIn S) (set-well-formed S good) from (k - from) (keptOf S marks) (omega (arith, length-kept S marks, t .within)) c in
-        rw is (sym (rw e at d) ∙ t .rest)
+      run-rest : dropBelow (termsIn S) (propositionsIn S) from (keptOf S less) ≡ blame (termsIn S) (propositionsIn S)
+      unfolding isDroppable
+      run-rest =
+          let e : from + (k - from) ≡ k = omega arith in
+          let is = kept-run S marks from k ordered (t .within) (t .count) in
+          let w : from + (k - from) ≤ length (keptOf S marks) = omega (arith, length-kept S marks, t .within) in
+          let d = drop-run (termsIn S) (propositionsIn S) (set-well-formed S good) from (k - from) (keptOf S marks) w (λ h. rw (e, ← is) (drops (omega arith))) in
+          rw is (sym (rw e at d) ∙ t .rest)
 
-    trying-cleared : Trying S (setRun marks from k 0) from
-    trying-cleared = record {
-      within = omega (arith, t .within);
-      count = length-run marks from k 0 ordered long ∙ t .count;
-      bits = run-bits;
-      ones = λ j h. run-below marks from k 0 ordered long j 0 h ∙ t .ones j (omega arith);
-      rest = run-rest;
-    }
+      trying-cleared : Trying S (setRun marks from k 0) from
+      trying-cleared = record {
+        within = omega (arith, t .within);
+        count = length-run marks from k 0 ordered long ∙ t .count;
+        bits = run-bits;
+        ones = λ j h. run-below marks from k 0 ordered long j 0 h ∙ t .ones j (omega arith);
+        rest = run-rest;
+      }
 
-  pub trying-dropped : AcceptedSet S → {marks : List ℕ} {from k : ℕ} → Trying S marks k → from ≤ k → isDroppable S marks from k ≡ true → Trying S (triedRun S marks from k) from
+  pub trying-dropped :
+      AcceptedSet S →
+      {marks : List ℕ} {from k : ℕ} →
+      Trying S marks k →
+      from ≤ k →
+      isDroppable S marks from k ≡ true →
+      Trying S (triedRun S marks from k) from
   trying-dropped good {marks} {from} {k} t o e = rw (tried-dropped S marks from k e) (trying-cleared good marks from k t o (λ _. e))
 
   -- one that can't be dropped stays
@@ -181,56 +189,62 @@ module _ (S : Set) where
         rest = sym (drop-none (termsIn S) (propositionsIn S) (keptOf S marks) k c) ∙ t .rest;
       }
 
-  module _ (old : List ℕ) (to : ℕ) where
-    pub halving-start : (from : ℕ) → from < to → to ≤ length old → isDroppable S old from to ≡ false → BlamedIn S old to old from to
-    halving-start from h w e = record {
-      nonempty = h;
-      below = omega arith;
-      are = run-none 0 old 0 to w;
-      dropped = λ g. absurd (omega arith);
-      stays = e;
+pub halving-start :
+    (S : Set) (old : List ℕ) (from to : ℕ) →
+    from < to →
+    to ≤ length old →
+    isDroppable S old from to ≡ false →
+    BlamedIn S old to old from to
+halving-start S old from to h w e = record {
+  nonempty = h;
+  below = omega arith;
+  are = run-none 0 old 0 to w;
+  dropped = λ g. absurd (omega arith);
+  stays = e;
+}
+
+module _ {S : Set} {old marks : List ℕ} {to low high : ℕ} (w : to ≤ length old) (b : BlamedIn S old to marks low high) where
+  pub blamed-length : length marks ≡ length old
+  blamed-length = ap length (b .are) ∙ length-run old high to 0 (b .below) w
+
+  pub blamed-ones : AllKept old to → AllKept marks high
+  blamed-ones A j h =
+      ap (λ (l : List ℕ). getD l j 0) (b .are) ∙ (run-below old high to 0 (b .below) w j 0 h ∙ A j (omega (arith, b .below)))
+
+  -- a run that ends at `high`, and one that ends at `to`
+  joined : (mid : ℕ) → mid ≤ high → setRun marks mid high 0 ≡ setRun old mid to 0
+  joined mid h = ap (λ (l : List ℕ). setRun l mid high 0) (b .are) ∙ run-both 0 old 0 mid high to h (b .below) w
+
+  same-droppable : (mid : ℕ) → mid ≤ high → isDroppable S marks mid high ≡ isDroppable S old mid to
+  unfolding isDroppable
+  same-droppable mid h = ap (keptIsContradictory S) (joined mid h)
+
+  module _ (mid : ℕ) (over : low < mid) (under : mid < high) where
+    pub upper-dropped : isDroppable S marks mid high ≡ true → BlamedIn S old to (triedRun S marks mid high) low mid
+    upper-dropped e = record {
+      nonempty = over;
+      below = omega (arith, b .below);
+      are = tried-dropped S marks mid high e ∙ joined mid (omega arith);
+      dropped = λ _. sym (same-droppable mid (omega arith)) ∙ e;
+      stays = b .stays;
     }
 
-    module _ (marks : List ℕ) (low high : ℕ) (w : to ≤ length old) (b : BlamedIn S old to marks low high) where
-      pub blamed-length : length marks ≡ length old
-      blamed-length = ap length (b .are) ∙ length-run old high to 0 (b .below) w
+    pub upper-kept : isDroppable S marks mid high ≡ false → BlamedIn S old to (triedRun S marks mid high) mid high
+    upper-kept e = record {
+      nonempty = under;
+      below = b .below;
+      are = tried-kept S marks mid high e ∙ b .are;
+      dropped = b .dropped;
+      stays = sym (same-droppable mid (omega arith)) ∙ e;
+    }
 
-      pub blamed-ones : AllKept old to → AllKept marks high
-      blamed-ones A j h = ap (λ (l : List ℕ). getD l j 0) (b .are) ∙ (run-below old high to 0 (b .below) w j 0 h ∙ A j (omega (arith, b .below)))
-
-      -- a run that ends at `high`, and one that ends at `to`
-      joined : (mid : ℕ) → mid ≤ high → setRun marks mid high 0 ≡ setRun old mid to 0
-      joined mid h = ap (λ (l : List ℕ). setRun l mid high 0) (b .are) ∙ run-both 0 old 0 mid high to h (b .below) w
-
-      pub same-droppable : (mid : ℕ) → mid ≤ high → isDroppable S marks mid high ≡ isDroppable S old mid to
-      unfolding isDroppable
-      same-droppable mid h = ap (keptIsContradictory S) (joined mid h)
-
-      module _ (mid : ℕ) (over : low < mid) (under : mid < high) where
-        pub upper-dropped : isDroppable S marks mid high ≡ true → BlamedIn S old to (triedRun S marks mid high) low mid
-        upper-dropped e = record {
-          nonempty = over;
-          below = omega (arith, b .below);
-          are = tried-dropped S marks mid high e ∙ joined mid (omega arith);
-          dropped = λ _. sym (same-droppable mid (omega arith)) ∙ e;
-          stays = b .stays;
-        }
-
-        pub upper-kept : isDroppable S marks mid high ≡ false → BlamedIn S old to (triedRun S marks mid high) mid high
-        upper-kept e = record {
-          nonempty = under;
-          below = b .below;
-          are = tried-kept S marks mid high e ∙ b .are;
-          dropped = b .dropped;
-          stays = sym (same-droppable mid (omega arith)) ∙ e;
-        }
-
+module _ (S : Set) where
   -- the highest that can't be dropped is found
   pub trying-blamed : AcceptedSet S → {old marks : List ℕ} {to k : ℕ} → Trying S old to → BlamedIn S old to marks k (suc k) → Trying S marks k
   trying-blamed good {old} {marks} {to} {k} t b =
       let w : to ≤ length old = omega (arith, t .within, t .count) in
-      let u : Trying S marks (suc k) = rw (b .are) (trying-cleared good old (suc k) to t (b .below) (b .dropped)) in
-      trying-kept marks k u (same-droppable old to marks k (suc k) w b k (omega arith) ∙ b .stays)
+      let u : Trying S marks (suc k) = rw (b .are) (trying-cleared S good old (suc k) to t (b .below) (b .dropped)) in
+      trying-kept S marks k u (same-droppable w b k (omega arith) ∙ b .stays)
 
   -- the marks at the end
   pub trying-end : (marks : List ℕ) → Trying S marks 0 → marks ≡ blameMarks S

@@ -51,7 +51,7 @@ module _ (ts : List Term) (ps : List Proposition) (wf : WellFormed ts (listed ts
       let less = set kept k false in
       let long : k ≤ length less = omega (arith, length-set kept k false) in
       let joined : setRun less from k false ≡ setRun kept from (suc k) false =
-      ap (λ (l : List Bool). setRun l from k false) (run-one false kept false k (omega arith)) ∙ run-both false kept false from k (suc k) (omega arith) (omega arith) (omega arith) in
+      rw (run-one false kept false k (omega arith)) (run-both false kept false from k (suc k) (omega arith) (omega arith) (omega arith)) in
       let all : keptContradictory ts ps (setRun less from k false) ≡ true = rw joined (rw e at (c (omega arith))) in
       let one : keptContradictory ts ps less ≡ true = kept-more ts ps wf (setRun less from k false) less (run-fewer less from k (omega arith) long) all in
       rw e

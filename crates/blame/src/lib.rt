@@ -8,7 +8,7 @@ use types::PropositionNumber;
 ghost use mathlib.Core.Path.{_≡_};
 ghost use mathlib.Core.Bool.{false};
 ghost use Prim.Native.Nat.{suc, _-_, _<_, _≤_};
-ghost use lib.ListN.{length, getD};
+ghost use lib.ListN.{length};
 ghost use Rattle.lists.specs.Lent.{before, after};
 ghost use Rattle.outcome.specs.Outcome.{marksIf};
 ghost use Rattle.tables.specs.Sets.{setOf};
@@ -49,7 +49,7 @@ fn drop_run(
     false
 }
 
-// The highest of the propositions from..to that can't be dropped, by halving; those above it are dropped. Not all of them can be dropped
+// The highest of the propositions from..to that can't be dropped, found by halving; those above it are dropped. They can't all be dropped
 // at once.
 fn find_blamed(
     terms: &[TermRow],
@@ -86,7 +86,7 @@ fn find_blamed(
     PropositionNumber(low)
 }
 
-// Where a run of this length starts that ends at k; 0 where there are fewer.
+// Where a run of so many propositions that ends at k starts; 0 where there are fewer.
 fn run_start(k: usize, run: usize) -> usize
     ensures { λ r. ⌜ r ≡ k - run ⌝ }
 {
@@ -109,29 +109,13 @@ fn blame_marks(
     let mut k = propositions.len();
     let mut run = 1;
     while 0 < k {
-        let from = run_start(k, run);
-        if drop_run(
-            terms,
-            propositions,
-            marks,
-            representatives,
-            offsets,
-            from,
-            k,
-        ) {
-            run = 2 * (k - from);
-            k = from;
+        let low = run_start(k, run);
+        if drop_run(terms, propositions, marks, representatives, offsets, low, k) {
+            run = 2 * (k - low);
+            k = low;
             continue;
         }
-        let blamed = find_blamed(
-            terms,
-            propositions,
-            marks,
-            representatives,
-            offsets,
-            from,
-            k,
-        );
+        let blamed = find_blamed(terms, propositions, marks, representatives, offsets, low, k);
         k = blamed.0;
         run = 1;
     }

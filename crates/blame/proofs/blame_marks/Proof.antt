@@ -55,8 +55,9 @@ loop-again c =
     let l = a .before .before in
     let s = l .before .before .before in
     let i = l .loop .inv in
+    let e = sym (t .drop-run .ensures .0) ∙ c .if1 .taken in
     record {
-      trying = rw (t .drop-run .ensures .1) (trying-dropped _ (s .pre .0 .good) (i .trying) (omega (arith, a .run-start .ensures)) (sym (t .drop-run .ensures .0) ∙ c .if1 .taken));
+      trying = rw (t .drop-run .ensures .1) (trying-dropped _ (s .pre .0 .good) (i .trying) (omega (arith, a .run-start .ensures)) e);
       reps-count = t .drop-run .kept .1 .1 .1 .0 ∙ i .reps-count;
       offs-count = t .drop-run .kept .1 .1 .1 .1 .0 ∙ i .offs-count;
       some-left = omega (arith, a .run-start .ensures, h, i .some-left);

@@ -21,7 +21,7 @@ loop-holds c =
     let l = s .pre .0 in
     let p = s .pre .1 .0 in
     record {
-      blamed = halving-start _ (s .args .marks .now) (s .args .to) (s .args .from) (p .0) (omega (arith, l .marks-count, p .1)) (s .pre .1 .1);
+      blamed = halving-start _ (s .args .marks .now) (s .args .from) (s .args .to) (p .0) (omega (arith, l .marks-count, p .1)) (s .pre .1 .1);
       reps-count = l .reps-count;
       offs-count = l .offs-count;
     }
@@ -34,8 +34,8 @@ drop-run-requires c κs =
     let i = l .loop .inv in
     let w : s .args .to ≤ length (s .args .marks .now) = omega (arith, s .pre .0 .marks-count, p .1) in
     let b = i .blamed in
-    let n = blamed-length _ (s .args .marks .now) (s .args .to) (l .loop .marks) (l .loop .low) (l .loop .high) w b in
-    let A = blamed-ones _ (s .args .marks .now) (s .args .to) (l .loop .marks) (l .loop .low) (l .loop .high) w b (p .2) in (
+    let n = blamed-length w b in
+    let A = blamed-ones w b (p .2) in (
       record { good = s .pre .0 .good; marks-count = n ∙ s .pre .0 .marks-count; reps-count = i .reps-count; offs-count = i .offs-count },
       (omega (arith, b .nonempty), omega (arith, b .below, p .1), A),
     )
@@ -51,7 +51,7 @@ loop-again c =
     let mid = l .loop .low + (l .loop .high - l .loop .low) / 2 in
     let e = sym (t .drop-run .ensures .0) ∙ c .if1 .taken in
     record {
-      blamed = rw (t .drop-run .ensures .1) (upper-dropped _ (s .args .marks .now) (s .args .to) (l .loop .marks) (l .loop .low) (l .loop .high) w (i .blamed) mid (omega (arith, h)) (omega (arith, h)) e);
+      blamed = rw (t .drop-run .ensures .1) (upper-dropped w (i .blamed) mid (omega (arith, h)) (omega (arith, h)) e);
       reps-count = t .drop-run .kept .1 .1 .1 .0 ∙ i .reps-count;
       offs-count = t .drop-run .kept .1 .1 .1 .1 .0 ∙ i .offs-count;
     }
@@ -67,7 +67,7 @@ loop-again-2 c =
     let mid = l .loop .low + (l .loop .high - l .loop .low) / 2 in
     let e = sym (t .drop-run .ensures .0) ∙ c .if1 .left in
     record {
-      blamed = rw (t .drop-run .ensures .1) (upper-kept _ (s .args .marks .now) (s .args .to) (l .loop .marks) (l .loop .low) (l .loop .high) w (i .blamed) mid (omega (arith, h)) (omega (arith, h)) e);
+      blamed = rw (t .drop-run .ensures .1) (upper-kept w (i .blamed) mid (omega (arith, h)) (omega (arith, h)) e);
       reps-count = t .drop-run .kept .1 .1 .1 .0 ∙ i .reps-count;
       offs-count = t .drop-run .kept .1 .1 .1 .1 .0 ∙ i .offs-count;
     }
@@ -77,7 +77,7 @@ same-length c =
     let l = c .before in
     let s = l .before .before .before in
     let w : s .args .to ≤ length (s .args .marks .now) = omega (arith, s .pre .0 .marks-count, s .pre .1 .0 .1) in
-    blamed-length _ (s .args .marks .now) (s .args .to) (l .loop .marks) (l .loop .low) (l .loop .high) w (l .loop .inv .blamed)
+    blamed-length w (l .loop .inv .blamed)
 
 returns : tie.Need-returns Inv-loop μ-loop
 returns c =
