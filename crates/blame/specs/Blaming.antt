@@ -58,8 +58,8 @@ pub record Turn (S : Set) (marks reps : List ℕ) (offs : List ℤ) (k run : ℕ
   pub trying : Trying S marks k
   pub reps-count : length reps ≡ S .terms
   pub offs-count : length offs ≡ S .terms
-  pub some-left : 0 < run
-  pub run-within : run + k ≤ S .propositions + 1
+  pub run-least : 0 < run
+  pub run-most : run + k ≤ S .propositions + 1
 
 -- the highest proposition below `to` that can't be dropped is in low..high; of the marks `old` those from `high` on are dropped
 pub record BlamedIn (S : Set) (old : List ℕ) (to : ℕ) (marks : List ℕ) (low high : ℕ) : Type 0 where

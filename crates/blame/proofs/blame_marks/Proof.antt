@@ -22,8 +22,8 @@ loop-holds c =
       trying = trying-start _ (s .args .marks .now) (l .marks-count) (s .pre .1);
       reps-count = l .reps-count;
       offs-count = l .offs-count;
-      some-left = omega arith;
-      run-within = omega arith;
+      run-least = omega arith;
+      run-most = omega arith;
     }
 
 drop-run-requires : tie.Need-drop-run-requires Inv-loop μ-loop
@@ -40,12 +40,12 @@ drop-run-requires c κs =
 mul-run : tie.Need-mul-run Inv-loop μ-loop
 mul-run c =
     let a = c .before .before .before .before .before .before .before .before .before .before in
-    omega (arith, a .run-start .ensures, a .before .before .loop .inv .run-within)
+    omega (arith, a .run-start .ensures, a .before .before .loop .inv .run-most)
 
 loop-less : tie.Need-loop-less Inv-loop μ-loop
 loop-less c =
     let a = c .before .before .before .before .before .before .before .before .before .before in
-    omega (arith, a .run-start .ensures, a .before .loop-test .taken, a .before .before .loop .inv .some-left)
+    omega (arith, a .run-start .ensures, a .before .loop-test .taken, a .before .before .loop .inv .run-least)
 
 loop-again : tie.Need-loop-again Inv-loop μ-loop
 loop-again c =
@@ -60,8 +60,8 @@ loop-again c =
       trying = rw (t .drop-run .ensures .1) (trying-dropped _ (s .pre .0 .good) (i .trying) (omega (arith, a .run-start .ensures)) e);
       reps-count = t .drop-run .kept .1 .1 .1 .0 ∙ i .reps-count;
       offs-count = t .drop-run .kept .1 .1 .1 .1 .0 ∙ i .offs-count;
-      some-left = omega (arith, a .run-start .ensures, h, i .some-left);
-      run-within = omega (arith, a .run-start .ensures, h, i .run-within);
+      run-least = omega (arith, a .run-start .ensures, h, i .run-least);
+      run-most = omega (arith, a .run-start .ensures, h, i .run-most);
     }
 
 find-blamed-requires : tie.Need-find-blamed-requires Inv-loop μ-loop
@@ -81,7 +81,7 @@ find-blamed-requires c κs =
         reps-count = t .drop-run .kept .1 .1 .1 .0 ∙ i .reps-count;
         offs-count = t .drop-run .kept .1 .1 .1 .1 .0 ∙ i .offs-count;
       },
-      ((omega (arith, a .run-start .ensures, h, i .some-left), i .trying .within, rw same (i .trying .ones)), rw same stays),
+      ((omega (arith, a .run-start .ensures, h, i .run-least), i .trying .within, rw same (i .trying .ones)), rw same stays),
     )
 
 loop-again-2 : tie.Need-loop-again-2 Inv-loop μ-loop
@@ -100,8 +100,8 @@ loop-again-2 c =
       trying = trying-blamed _ (s .pre .0 .good) (rw same (i .trying)) e;
       reps-count = b .find-blamed .kept .1 .1 .1 .0 ∙ (t .drop-run .kept .1 .1 .1 .0 ∙ i .reps-count);
       offs-count = b .find-blamed .kept .1 .1 .1 .1 .0 ∙ (t .drop-run .kept .1 .1 .1 .1 .0 ∙ i .offs-count);
-      some-left = omega arith;
-      run-within = omega (arith, e .nonempty, e .below, i .trying .within);
+      run-least = omega arith;
+      run-most = omega (arith, e .nonempty, e .below, i .trying .within);
     }
 
 returns : tie.Need-returns Inv-loop μ-loop
