@@ -41,7 +41,7 @@ length-blame-marks S =
 unfoldable pub isDroppable : Set → List ℕ → ℕ → ℕ → Bool
 isDroppable S marks from to = keptIsContradictory S (setRun marks from to 0)
 
--- the marks after the run was tried
+-- the marks after the run was tried: cleared if it can be dropped
 unfoldable pub triedRun : Set → List ℕ → ℕ → ℕ → List ℕ
 triedRun S marks from to = choose (isDroppable S marks from to) (setRun marks from to 0) marks
 
@@ -61,7 +61,7 @@ pub record Turn (S : Set) (marks reps : List ℕ) (offs : List ℤ) (k run : ℕ
   pub run-least : 0 < run
   pub run-most : run + k ≤ S .propositions + 1
 
--- the highest proposition below `to` that can't be dropped is in low..high; of the marks `old` those from `high` on are dropped
+-- the run high..to is dropped from the marks `old`, and the run low..to can't be: the highest blamed proposition below `to` is in low..high
 pub record BlamedIn (S : Set) (old : List ℕ) (to : ℕ) (marks : List ℕ) (low high : ℕ) : Type 0 where
   pub nonempty : low < high
   pub below : high ≤ to
@@ -106,9 +106,9 @@ module _ (S : Set) (marks : List ℕ) (from to : ℕ) where
         (sym e, l ∙ (ap (λ (m : List ℕ). setRun m from to 1) is ∙ (run-back 0 marks 0 1 from to o w (λ k _ h. A k h) ∙ sym (tried-kept e))))
 
   module _ (ordered : from ≤ to) (within : to ≤ S .propositions) (count : length marks ≡ S .propositions) where
-    -- a run is cleared
-    kept-run : keptOf S (setRun marks from to 0) ≡ setRun (keptOf S marks) from to false
-    kept-run =
+    -- the kept propositions without the run
+    kept-cleared : keptOf S (setRun marks from to 0) ≡ setRun (keptOf S marks) from to false
+    kept-cleared =
         let less = setRun marks from to 0 in
         let w : to ≤ length marks = omega arith in
         let n = length-kept S marks in
@@ -151,7 +151,7 @@ module _ (S : Set) where
       unfolding isDroppable
       run-rest =
           let e : from + (k - from) ≡ k = omega arith in
-          let is = kept-run S marks from k ordered (t .within) (t .count) in
+          let is = kept-cleared S marks from k ordered (t .within) (t .count) in
           let w : from + (k - from) ≤ length (keptOf S marks) = omega (arith, length-kept S marks, t .within) in
           let d = drop-run (termsIn S) (propositionsIn S) (set-well-formed S good) from (k - from) (keptOf S marks) w (λ h. rw (e, ← is) (drops (omega arith))) in
           rw is (sym (rw e at d) ∙ t .rest)
@@ -178,7 +178,7 @@ module _ (S : Set) where
   trying-kept : (marks : List ℕ) (k : ℕ) → Trying S marks (suc k) → isDroppable S marks k (suc k) ≡ false → Trying S marks k
   unfolding isDroppable
   trying-kept marks k t e =
-      let is = kept-run S marks k (suc k) (omega arith) (t .within) (t .count) in
+      let is = kept-cleared S marks k (suc k) (omega arith) (t .within) (t .count) in
       let one = run-one false (keptOf S marks) false k (omega (arith, length-kept S marks, t .within)) in
       let c : keptContradictory (termsIn S) (propositionsIn S) (set (keptOf S marks) k false) ≡ false = rw (one, ← is) e in
       record {

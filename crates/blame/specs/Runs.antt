@@ -104,7 +104,12 @@ module _ {A : Type 0} (d : A) (l : List A) (v : A) where
           run-above (setRun l mid to v) from mid v f (omega (arith, length-run l mid to v m t)) k d (omega arith) ∙ run-inside l mid to v m t k d (omega arith) g
 
   -- a run that is written again with what it held
-  pub run-back : (u : A) (from to : ℕ) → from ≤ to → to ≤ length l → ((k : ℕ) → from ≤ k → k < to → getD l k d ≡ u) → setRun (setRun l from to v) from to u ≡ l
+  pub run-back :
+      (u : A) (from to : ℕ) →
+      from ≤ to →
+      to ≤ length l →
+      ((k : ℕ) → from ≤ k → k < to → getD l k d ≡ u) →
+      setRun (setRun l from to v) from to u ≡ l
   run-back u from to o w held =
       let n = length-run l from to v o w in
       sym
