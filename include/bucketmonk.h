@@ -98,7 +98,8 @@ typedef struct {
  * for the others, or without blame 0 for all; pair bits 0; answers 3. Cells beyond those needed are unchanged. A refused call changes
  * nothing.
  *
- * A contradiction takes about as long as its verdict alone; with blame, one more verdict for each proposition. */
+ * A contradiction takes about as long as its verdict alone; with blame, at most three more verdicts for two propositions, and few where
+ * few are blamed. */
 size_t bucketmonk_solve(
     size_t n, const bucketmonk_term *terms, size_t terms_length,
     size_t m, const bucketmonk_proposition *propositions, size_t propositions_length,

@@ -258,8 +258,8 @@ fn medians<const N: usize>(calls: usize, mut all: [&mut dyn FnMut(); N]) -> [f64
     })
 }
 
-/// A contradictory set with 512 questions, with blame and without, beside one verdict on it. Blame makes a verdict for the set and one for
-/// each proposition; without it there is one verdict.
+/// A contradictory set with 512 questions, with blame and without, beside one verdict on it. Blame makes a verdict for the set and more on
+/// parts of it, 512 where all propositions are blamed, at most 40 where two are; without it there is one verdict.
 fn blame(name: &str, mut set: Set) -> Vec<String> {
     sets::questions(&mut Numbers(7), &mut set, 512);
     let mut memory = memory(&set);
