@@ -23,6 +23,7 @@ ghost use Prim.Native.Nat.{_≤_};
 ghost use lib.ListN.{length};
 ghost use Rattle.lists.specs.Lent.{before, after};
 ghost use Rattle.points.specs.Places.{Chained};
+ghost use Rattle.points.specs.Homes.{Unique};
 ghost use Rattle.marking.specs.Marks.{Room, zeros};
 ghost use Rattle.marking.specs.Classes.{Sides};
 ghost use Rattle.differences.specs.Table.{Based, Given, Placed, Told};
@@ -54,7 +55,7 @@ fn mark_base(
     pairs: &mut [u8],
     notes: &mut Notes,
 )
-    requires { ⌜ Chained n (now points) (now heights) (now «class_first») (now «class_next») (now «slot_first») (now «slot_next») ⌝ }
+    requires { ⌜ Chained n (now points) (now heights) (now «class_first») (now «class_next») (now «slot_first») (now «slot_next») × Unique n (now points) (now heights) ⌝ }
     requires { ⌜ Sides n m (now «left_classes») (now «left_heights») (now «right_classes») (now «right_heights») × (Room n (now apart) × Room n (now pairs)) ⌝ }
     ensures { λ _. ⌜ Based n m (before points) (before heights) (before «left_classes») (before «left_heights») (before «right_classes») (before «right_heights») (before apart) (length (before pairs)) (after pairs) ⌝ }
 {

@@ -88,45 +88,6 @@ zero-more {f} {k} {l} e Z = record { zero = λ y h g. ⊎-elim (λ (s : y ≡ k)
 pub zero-none : (n a : ℕ) {k : ℕ} {apart : List ℕ} → (a * n + (n - 1)) / 8 < k → ZeroBytes ((a * n + 0) / 8) k apart → NoneApart n apart a
 zero-none n a {k} {apart} h Z = record { none = λ b l. isSet-zero apart (a * n + b) (Z .zero ((a * n + b) / 8) (omega arith) (omega arith)) }
 
--- the pair (i, j), where j is at another height than p; and is in class a
-abbrev pub OtherPair : List ℕ → ℕ → ℕ → ℕ → ℕ → ℕ → Type 0
-OtherPair heights p i j x y = (height heights j ≢ p) × One i j x y
-
-abbrev pub OwnPair : List ℕ → List ℕ → ℕ → ℕ → ℕ → ℕ → ℕ → ℕ → Type 0
-OwnPair points heights a p i j x y = (class points j ≡ a) × OtherPair heights p i j x y
-
--- where no class is apart from that of i, only the homes of its own differ
-pub own-classes :
-    (n : ℕ) (apart points heights : List ℕ) (i : ℕ) {old new : List ℕ} → class points i < n → NoneApart n apart (class points i) →
-    Adds n (Upto n (OwnPair points heights (class points i) (height heights i) i)) old new →
-    Adds n (Upto n (ClassPair n apart points heights i)) old new
-unfolding classesDiffer
-own-classes n apart points heights i h N a =
-    adds-as n (Upto n (OwnPair points heights A P i)) (Upto n (ClassPair n apart points heights i)) a
-    (λ x y hx hy (j, hj, (e, (m, o))). (j, hj, ((h, (rw e h, or-second (isSet apart (A * n + class points j)) _ (parts-other A P (class points j) (height heights j) (sym e) (λ s. m (sym s))))), o)))
-    (λ x y hx hy (j, hj, (d, o)). (j, hj, other j (d .1 .0) (d .1 .1) o))
-  where
-    A : ℕ
-    A = class points i
-
-    P : ℕ
-    P = height heights i
-
-    other : (j : ℕ) {x y : ℕ} → class points j < n → (isSet apart (A * n + class points j) || otherHeight A P (class points j) (height heights j)) ≡ true → One i j x y → OwnPair points heights A P i j x y
-    other j g e o =
-        ⊎-elim (λ s. false-true (N .none (class points j) g) s)
-        (λ s. let r = other-parts A P (class points j) (height heights j) s in (sym (r .0), ((λ t. r .1 (sym t)), o)))
-        (or-cases (isSet apart (A * n + class points j)) _ e)
-
-pub all-classes :
-    (n : ℕ) (apart points heights : List ℕ) {old new : List ℕ} →
-    Adds n (Upto n (λ i. Upto n (ClassPair n apart points heights i))) old new →
-    Adds n (PointsDiffer n apart points heights) old new
-all-classes n apart points heights a =
-    adds-as n (Upto n (λ i. Upto n (ClassPair n apart points heights i))) (PointsDiffer n apart points heights) a
-    (λ x y hx hy (i, hi, (j, hj, (e, o))). rw (o .0, o .1) e)
-    (λ x y hx hy e. (x, hx, (y, hy, (e, (refl, refl)))))
-
 -- the places of the two sides of proposition k; the class of what is no disequality is n
 pub record Side (n : ℕ) (leftClasses leftHeights rightClasses rightHeights : List ℕ) (k : ℕ) : Type 0 where
   pub left-there : k < length leftClasses

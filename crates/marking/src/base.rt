@@ -3,7 +3,6 @@ use crate::between::mark_between;
 use crate::bits::first_byte;
 use crate::bits::last_byte;
 use crate::bits::pair_number;
-use crate::bits::set_pair;
 use crate::bits::test_pair;
 use crate::bits::write_pair;
 use crate::notes::Notes;
@@ -12,16 +11,20 @@ use points::places::index;
 use points::places::linked;
 use types::PropositionNumber;
 use types::TermNumber;
+use words::or_word;
+use words::put;
+use words::word_without;
 ghost use mathlib.Core.Path.{_≡_};
 ghost use mathlib.Core.Bool.{true};
 ghost use Prim.Native.Nat.{_<_, _≤_};
-ghost use lib.ListN.{length};
 ghost use Rattle.buckets.specs.Buckets.{Chains};
 ghost use Rattle.lists.specs.Lent.{before, after};
 ghost use Rattle.tables.specs.Limits.{most};
-ghost use Rattle.marking.specs.Marks.{Adds, Inside, Room, Upto};
+ghost use Rattle.marking.specs.Marks.{Adds, Inside, Room, Upto, zeros};
 ghost use Rattle.points.specs.Places.{Chained, class, classSlots, Column};
-ghost use Rattle.marking.specs.Classes.{ClassPair, classesDiffer, differsFrom, ListedPair, NoneApart, otherHeight, OtherPair, OwnPair, PointsDiffer, Side, Sides};
+ghost use Rattle.points.specs.Homes.{Unique};
+ghost use Rattle.marking.specs.Classes.{ClassPair, classesDiffer, differsFrom, ListedPair, NoneApart, otherHeight, PointsDiffer, Side, Sides};
+ghost use Rattle.marking.specs.Rows.{ApartRow, Below, ClassRows, MaskPair, OwnMask, OwnRow};
 
 // Whether two places are in one class at different heights.
 pub(crate) fn other_height(a: u32, p: u64, b: u32, q: u64) -> bool
@@ -91,12 +94,12 @@ fn mark_row(
 }
 
 // Whether no class is apart from class a: all bytes that hold its bits are 0.
-fn none_apart(n: usize, a: u32, apart: &[u8]) -> bool
+fn none_apart(n: usize, a: usize, apart: &[u8]) -> bool
     requires { ⌜ (n ≤ most) × (a < n) ⌝ }
     ensures { λ r. ⌜ (r ≡ true → NoneApart n (before apart) a) ⌝ }
 {
-    let first = pair_number(n, TermNumber(index(a)), TermNumber(0));
-    let last = pair_number(n, TermNumber(index(a)), TermNumber(n - 1));
+    let first = pair_number(n, TermNumber(a), TermNumber(0));
+    let last = pair_number(n, TermNumber(a), TermNumber(n - 1));
     for k in first / 8..last / 8 + 1 {
         if byte_at(apart, k) != 0 {
             return false;
@@ -105,44 +108,60 @@ fn none_apart(n: usize, a: u32, apart: &[u8]) -> bool
     true
 }
 
-// The pair (i, j), if j is at another height than p.
-fn mark_other(n: usize, i: TermNumber, p: u64, j: TermNumber, heights: &[u64], pairs: &mut [u8])
-    requires { ⌜ Inside n (i .0) (j .0) × ((n ≤ length (now heights)) × Room n (now pairs)) ⌝ }
-    ensures { λ _. ⌜ Adds n (OtherPair (before heights) p (i .0) (j .0)) (before pairs) (after pairs) ⌝ }
+// Puts the homes of class a into a mask.
+fn own_homes(
+    n: usize,
+    a: usize,
+    points: &[u32],
+    class_first: &[u16],
+    class_next: &[u16],
+    own: &mut [u64],
+)
+    requires { ⌜ Chains n classSlots (now points) (now «class_first») (now «class_next») × ((n ≤ most) × ((a < n) × (now own ≡ zeros 8))) ⌝ }
+    ensures { λ _. ⌜ OwnMask n (before points) a (after own) ⌝ }
 {
-    let y = j.0;
-    if heights[y] == p {
-        return;
+    let mut t = linked(class_first, a);
+    while t < n {
+        put(own, t);
+        t = linked(class_next, t);
     }
-    set_pair(n, i, j, pairs);
 }
 
-// The pairs of i with the homes of class a at other heights than p.
+// The pairs of i with the terms of a mask, but for i itself, by words.
+fn mark_masked(n: usize, i: TermNumber, mask: &[u64], pairs: &mut [u8])
+    requires { ⌜ Below n (now mask) × (Inside n (i .0) (i .0) × Room n (now pairs)) ⌝ }
+    ensures { λ _. ⌜ Adds n (MaskPair (before mask) (i .0)) (before pairs) (after pairs) ⌝ }
+{
+    let start = pair_number(n, i, TermNumber(0));
+    for w in 0..(n + 63) / 64 {
+        or_word(pairs, start + 64 * w, word_without(mask, w, i.0));
+    }
+}
+
+// The pairs of the homes of class a, which are those of the mask, with each other.
 fn mark_own(
     n: usize,
-    i: TermNumber,
-    a: u32,
-    p: u64,
+    a: usize,
+    own: &[u64],
     points: &[u32],
-    heights: &[u64],
     class_first: &[u16],
     class_next: &[u16],
     pairs: &mut [u8],
 )
-    requires { ⌜ Column n (now points) (now heights) × (Chains n classSlots (now points) (now «class_first») (now «class_next») × ((i .0 < n) × ((a < n) × Room n (now pairs)))) ⌝ }
-    ensures { λ _. ⌜ Adds n (Upto n (OwnPair (before points) (before heights) a p (i .0))) (before pairs) (after pairs) ⌝ }
+    requires { ⌜ Chains n classSlots (now points) (now «class_first») (now «class_next») × ((n ≤ most) × ((a < n) × (Below n (now own) × Room n (now pairs)))) ⌝ }
+    ensures { λ _. ⌜ Adds n (Upto n (OwnRow (before points) (before own) a)) (before pairs) (after pairs) ⌝ }
 {
-    let mut j = linked(class_first, index(a));
-    while j < n {
-        mark_other(n, i, p, TermNumber(j), heights, pairs);
-        j = linked(class_next, j);
+    let mut i = linked(class_first, a);
+    while i < n {
+        mark_masked(n, TermNumber(i), own, pairs);
+        i = linked(class_next, i);
     }
 }
 
-// The pairs of i that differ by their classes, if it is a home. Where no class is apart from its own, only the homes of its own differ.
-fn mark_classes_of(
+// The pairs of the homes of class a that differ by their classes.
+fn mark_rows(
     n: usize,
-    i: TermNumber,
+    a: usize,
     points: &[u32],
     heights: &[u64],
     apart: &[u8],
@@ -150,29 +169,37 @@ fn mark_classes_of(
     class_next: &[u16],
     pairs: &mut [u8],
 )
-    requires { ⌜ Column n (now points) (now heights) × (Chains n classSlots (now points) (now «class_first») (now «class_next») × ((i .0 < n) × (Room n (now apart) × Room n (now pairs)))) ⌝ }
-    ensures { λ _. ⌜ Adds n (Upto n (ClassPair n (before apart) (before points) (before heights) (i .0))) (before pairs) (after pairs) ⌝ }
+    requires { ⌜ Column n (now points) (now heights) × (Chains n classSlots (now points) (now «class_first») (now «class_next») × ((a < n) × (Room n (now apart) × Room n (now pairs)))) ⌝ }
+    ensures { λ _. ⌜ Adds n (Upto n (ApartRow n (before apart) (before points) (before heights) a)) (before pairs) (after pairs) ⌝ }
 {
-    let x = i.0;
-    let a = points[x];
-    if n <= index(a) {
-        return;
+    let mut i = linked(class_first, a);
+    while i < n {
+        mark_row(n, TermNumber(i), points, heights, apart, pairs);
+        i = linked(class_next, i);
     }
+}
+
+// The same. Where no class is apart from a, only its own homes differ from each other: no two of them are at one place.
+fn mark_class(
+    n: usize,
+    a: usize,
+    points: &[u32],
+    heights: &[u64],
+    apart: &[u8],
+    class_first: &[u16],
+    class_next: &[u16],
+    pairs: &mut [u8],
+)
+    requires { ⌜ Column n (now points) (now heights) × (Unique n (now points) (now heights) × (Chains n classSlots (now points) (now «class_first») (now «class_next») × ((a < n) × (Room n (now apart) × Room n (now pairs))))) ⌝ }
+    ensures { λ _. ⌜ Adds n (ClassRows n (before apart) (before points) (before heights) a) (before pairs) (after pairs) ⌝ }
+{
     if none_apart(n, a, apart) {
-        mark_own(
-            n,
-            i,
-            a,
-            heights[x],
-            points,
-            heights,
-            class_first,
-            class_next,
-            pairs,
-        );
+        let mut own = [0u64; 8];
+        own_homes(n, a, points, class_first, class_next, &mut own);
+        mark_own(n, a, &own, points, class_first, class_next, pairs);
         return;
     }
-    mark_row(n, i, points, heights, apart, pairs);
+    mark_rows(n, a, points, heights, apart, class_first, class_next, pairs);
 }
 
 // The pairs of homes that differ by their classes. Public for the crate `differences`.
@@ -185,20 +212,11 @@ pub fn mark_classes(
     class_next: &[u16],
     pairs: &mut [u8],
 )
-    requires { ⌜ Column n (now points) (now heights) × (Chains n classSlots (now points) (now «class_first») (now «class_next») × (Room n (now apart) × Room n (now pairs))) ⌝ }
+    requires { ⌜ Column n (now points) (now heights) × (Unique n (now points) (now heights) × (Chains n classSlots (now points) (now «class_first») (now «class_next») × (Room n (now apart) × Room n (now pairs)))) ⌝ }
     ensures { λ _. ⌜ Adds n (PointsDiffer n (before apart) (before points) (before heights)) (before pairs) (after pairs) ⌝ }
 {
-    for i in 0..n {
-        mark_classes_of(
-            n,
-            TermNumber(i),
-            points,
-            heights,
-            apart,
-            class_first,
-            class_next,
-            pairs,
-        );
+    for a in 0..n {
+        mark_class(n, a, points, heights, apart, class_first, class_next, pairs);
     }
 }
 

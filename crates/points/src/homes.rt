@@ -1,4 +1,4 @@
-// Homes: of the terms at one place one stands for all of them.
+// Homes: of the terms at one place the first stands for all of them.
 use crate::chains::narrow;
 use crate::places::index;
 use crate::places::is_at;
@@ -12,9 +12,9 @@ ghost use lib.ListN.{length};
 ghost use Rattle.lists.specs.Lent.{before, after};
 ghost use Rattle.tables.specs.Limits.{most};
 ghost use Rattle.points.specs.Places.{Column, SlotChains, Terms};
-ghost use Rattle.points.specs.Homes.{HomeOf, Homes, pointOf, Points};
+ghost use Rattle.points.specs.Homes.{FirstThere, Homes, pointOf, Points};
 
-// The first term at the place of t, or t if the walk passes it. Nothing relies on it.
+// The first term at the place of t.
 fn first_there(
     n: usize,
     t: TermNumber,
@@ -24,6 +24,7 @@ fn first_there(
     slot_next: &[u16],
 ) -> usize
     requires { ⌜ Column n (now classes) (now heights) × (SlotChains n (now classes) (now heights) (now «slot_first») (now «slot_next») × (t .0 < n)) ⌝ }
+    ensures { λ r. ⌜ FirstThere (before classes) (before heights) (t .0) r ⌝ }
 {
     let k = t.0;
     let class = classes[k];
@@ -36,24 +37,6 @@ fn first_there(
         j = linked(slot_next, j);
     }
     k
-}
-
-// The home of t: j, if it is before t, its own home and at the place of t, else t.
-fn home_of(t: TermNumber, j: usize, classes: &[u32], heights: &[u64], homes: &[u32]) -> usize
-    requires { ⌜ (t .0 < length (now classes)) × ((t .0 < length (now heights)) × (t .0 < length (now homes))) ⌝ }
-    ensures { λ r. ⌜ HomeOf (before classes) (before heights) (before homes) (t .0) r ⌝ }
-{
-    let k = t.0;
-    if k <= j {
-        return k;
-    }
-    if index(homes[j]) != j {
-        return k;
-    }
-    if !is_at(TermNumber(j), classes[k], heights[k], classes, heights) {
-        return k;
-    }
-    j
 }
 
 // The home of each term. Public for the crate `differences`.
@@ -70,7 +53,7 @@ pub fn fill_homes(
 {
     for t in 0..n {
         let j = first_there(n, TermNumber(t), classes, heights, slot_first, slot_next);
-        homes[t] = narrow(home_of(TermNumber(t), j, classes, heights, homes));
+        homes[t] = narrow(j);
     }
 }
 

@@ -2,11 +2,11 @@
 use Prim.Native.Nat.{ℕ, zero, suc, _+_, _*_, _/_, _%_, _^_, _<_, _≤_, _-_, max, min}
 use mathlib.Core.Path.{_≡_, refl, sym, _∙_, ap}
 use mathlib.Core.Logic.{_≢_, _⊎_, inl, inr, ⊎-elim}
-use mathlib.Core.Bool.{Bool, true, false, _&&_, _||_}
+use mathlib.Core.Bool.{Bool, true, false, not, _&&_, _||_}
 use mathlib.Core.List.{List}
 use native.Mathlib.Nat.{zero-div, div-eq-of-lt, mul-le-mul-right, mod-lt}
 use native.Mathlib.Omega.{arith}
-use lib.Bits.{bitOr, bitAnd, or-shr, or-step, and-shr, and-step, or-lt, or-shifted-r, and-mask}
+use lib.Bits.{bitOr, bitAnd, bitXor, or-shr, or-step, and-shr, and-step, xor-shr, xor-step, or-lt, or-shifted-r, and-mask}
 use lib.Dec.{eqb, leb, ltb}
 use lib.ListN.{length, getD, set, length-set}
 use lib.Pow.{shl-exact, shr-le, shr-shr, pow-pos, pow-lt, pow-add, high, low, field, mod-mod-pow}
@@ -63,6 +63,27 @@ unfolding isOne
 one-and x y b =
     let e : bitAnd x y / 2 ^ b % 2 ≡ min (x / 2 ^ b % 2) (y / 2 ^ b % 2) = rw (and-shr x y b) (omega (arith, and-step (x / 2 ^ b) (y / 2 ^ b))) in
     rw e (one-min (x / 2 ^ b % 2) (y / 2 ^ b % 2) (omega arith) (omega arith))
+
+-- where the first number has a 1
+one-xor : (x y b : ℕ) → isOne x b ≡ true → isOne (bitXor x y) b ≡ not (isOne y b)
+unfolding isOne
+one-xor x y b h = go (eqb (Y % 2) 1) refl
+  where
+    X : ℕ
+    X = x / 2 ^ b
+
+    Y : ℕ
+    Y = y / 2 ^ b
+
+    go : (t : Bool) → eqb (Y % 2) 1 ≡ t → eqb (bitXor x y / 2 ^ b % 2) 1 ≡ not t
+    go true f =
+        let s : bitXor X Y ≡ bitXor (X / 2) (Y / 2) * 2 + 0 = rw (is-one (X % 2) h, is-one (Y % 2) f) at (xor-step X Y) in
+        let e : bitXor x y / 2 ^ b % 2 ≡ 0 = rw (xor-shr x y b) (omega (arith, s)) in
+        rw e
+    go false f =
+        let s : bitXor X Y ≡ bitXor (X / 2) (Y / 2) * 2 + 1 = rw (is-one (X % 2) h, is-zero (Y % 2) (omega arith) f) at (xor-step X Y) in
+        let e : bitXor x y / 2 ^ b % 2 ≡ 1 = rw (xor-shr x y b) (omega (arith, s)) in
+        rw e
 
 -- shifted down
 pub one-down : (x s b : ℕ) → isOne (x / 2 ^ s) b ≡ isOne x (s + b)
@@ -402,6 +423,37 @@ pub record Put (old : List ℕ) (j : ℕ) (new : List ℕ) : Type 0 where
 
 pub put-bit : (mask : List ℕ) (j : ℕ) → j / 64 < length mask → Put mask j (set mask (j / 64) (bitOr (getD mask (j / 64) 0) (1 * 2 ^ (j % 64) % 2 ^ 64)))
 put-bit mask j h = record { long = length-set mask (j / 64) _; bits = λ v. mask-more mask j v h }
+
+-- r is word w of a mask, without number j
+pub record Without (mask : List ℕ) (w j r : ℕ) : Type 0 where
+  pub bits : (v : ℕ) → v / 64 ≡ w → isOne r (v % 64) ≡ (inMask mask v && not (eqb v j))
+
+and-all : (t : Bool) → (t && true) ≡ t
+and-all true = refl
+and-all false = refl
+
+pub without-other : (mask : List ℕ) (w j : ℕ) → j / 64 ≢ w → Without mask w j (getD mask w 0)
+unfolding inMask
+without-other mask w j m = record {
+  bits = λ v e. rw (e, ne-eqb v j (λ f. m (rw f at e))) (sym (and-all (isOne (getD mask w 0) (v % 64))));
+}
+
+pub without-bit : (mask : List ℕ) (w j x : ℕ) → j / 64 ≡ w → x ≡ getD mask w 0 → Without mask w j (bitAnd x (bitXor x (1 * 2 ^ (j % 64) % 2 ^ 64)))
+unfolding inMask
+without-bit mask w j x s g = record {
+  bits = λ v e. rw (e, ← g, same v e) (one-and x (bitXor x (1 * 2 ^ (j % 64) % 2 ^ 64)) (v % 64) ∙ go v (isOne x (v % 64)) refl);
+}
+  where
+    same : (v : ℕ) → v / 64 ≡ w → eqb v j ≡ eqb (v % 64) (j % 64)
+    same v e = at-both (eqb (v % 64) (j % 64)) refl
+      where
+        at-both : (t : Bool) → eqb (v % 64) (j % 64) ≡ t → eqb v j ≡ t
+        at-both true f = eq-eqb v j (omega (arith, eqb-true (v % 64) (j % 64) f))
+        at-both false f = let n = eqb-false (v % 64) (j % 64) f in ne-eqb v j (λ h. n (ap (λ (x : ℕ). x % 64) h))
+
+    go : (c : ℕ) (t : Bool) → isOne x (c % 64) ≡ t → (t && isOne (bitXor x (1 * 2 ^ (j % 64) % 2 ^ 64)) (c % 64)) ≡ (t && not (eqb (c % 64) (j % 64)))
+    go c true h = one-xor x (1 * 2 ^ (j % 64) % 2 ^ 64) (c % 64) h ∙ rw (one-bit (j % 64) (c % 64) (omega arith) (omega arith))
+    go c false h = refl
 
 -- r is the number of the lowest bit of x that is 1
 pub record Lowest (x r : ℕ) : Type 0 where

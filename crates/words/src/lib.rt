@@ -9,7 +9,7 @@ ghost use lib.ListN.{length, getD};
 ghost use Rattle.lists.specs.Lent.{before, after};
 ghost use Rattle.outcome.specs.PairBits.{bitValue};
 ghost use Rattle.pairbits.specs.Bits.{isSet};
-ghost use Rattle.words.specs.Words.{Common, Lowest, NextCommon, Ored, Put, Spells};
+ghost use Rattle.words.specs.Words.{Common, Lowest, NextCommon, Ored, Put, Spells, Without};
 
 fn wide(byte: u8) -> u64
     ensures { λ r. ⌜ (r ≡ byte) × (r < 256) ⌝ }
@@ -182,6 +182,17 @@ pub fn put(mask: &mut [u64], j: usize)
 {
     let w = j / 64;
     mask[w] = mask[w] | (1u64 << (j % 64));
+}
+
+// Word w of a mask, without number j.
+pub fn word_without(mask: &[u64], w: usize, j: usize) -> u64
+    ensures { λ r. ⌜ Without (before mask) w j r ⌝ }
+{
+    let word = mask_word(mask, w);
+    if j / 64 != w {
+        return word;
+    }
+    word & (word ^ (1u64 << (j % 64)))
 }
 
 fn first_one(word: u64) -> usize

@@ -2,6 +2,7 @@
 use native.Mathlib.Omega.{arith}
 use denote.Ref.{now}
 use borrow.Author.Needs.{needs}
+use Rattle.points.specs.Homes.{points-unique}
 use Rattle.expansion.specs.Expand.{homes-own}
 use Rattle.differences.specs.Table.{base-uniform, home-columns, room-based, table-told}
 use Rattle.differences.proofs.fill_table.Statement.{statement}
@@ -11,7 +12,7 @@ note-readers-requires : tie.Need-note-readers-requires
 note-readers-requires c κs = c .before .before .before .before .before .before .before .before .before .before .before .before .before .before .before .before .before .before .before .before .pre .1 .0 .leads-are .long
 
 mark-base-requires : tie.Need-mark-base-requires
-mark-base-requires c κs = let p = c .before .before .before .before .before .before .before .before .before .before .before .before .before .before .before .before .before .before .before .before .before .before .before .pre in (c .before .before .before .before .before .before .before .before .before .before .before .before .before .before .before .before .before .before .before .before .before .before .before .pre .1 .1, (p .0 .0 .sides, (p .0 .0 .apart-room, p .0 .1)))
+mark-base-requires c κs = let p = c .before .before .before .before .before .before .before .before .before .before .before .before .before .before .before .before .before .before .before .before .before .before .before .pre in ((p .1 .1, points-unique (p .1 .0 .homes-are) (p .1 .0 .points-are)), (p .0 .0 .sides, (p .0 .0 .apart-room, p .0 .1)))
 
 settle-requires : tie.Need-settle-requires
 settle-requires c κs = let s = c .before .before .before .before .before .before .before .before .before .before .before .before .before .before .before .before .before .before .before .before .before .before .before .before .before .before .before .before in

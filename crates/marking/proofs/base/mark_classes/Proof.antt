@@ -1,21 +1,21 @@
--- `marking::base::mark_classes` meets its contract. The invariant: the first i terms are done.
+-- `marking::base::mark_classes` meets its contract. The invariant: the first a classes are done.
 use Prim.Native.Nat.{_-_}
 use native.Mathlib.Omega.{arith}
 use denote.Ref.{now}
-use Rattle.marking.specs.Marks.{Marking, marking-start, marking-more, marking-done, room-kept, Upto}
-use Rattle.marking.specs.Classes.{ClassPair, all-classes}
+use Rattle.marking.specs.Marks.{Marking, marking-start, marking-more, marking-done, room-kept}
+use Rattle.marking.specs.Rows.{ClassRows, all-classes}
 use Rattle.marking.proofs.base.mark_classes.Statement.{statement}
 use Rattle.marking.proofs.base.mark_classes.Tie as tie
 
 abbrev Inv-loop : tie.InvT-loop
-Inv-loop n points heights apart class-first class-next pairs₀ i₀ pairs i = Marking n n i (λ k. Upto n (ClassPair n apart points heights k)) pairs₀ pairs
+Inv-loop n points heights apart class-first class-next pairs₀ a₀ pairs a = Marking n n a (ClassRows n apart points heights) pairs₀ pairs
 
 abbrev μ-loop : tie.MeasureT-loop
-μ-loop n points heights apart class-first class-next pairs₀ i₀ pairs i = n - i
+μ-loop n points heights apart class-first class-next pairs₀ a₀ pairs a = n - a
 
-mark-classes-of-requires : tie.Need-mark-classes-of-requires Inv-loop μ-loop
-mark-classes-of-requires c κs = let s = c .before .before .before .before .before .before .before .before .before in
-    (s .pre .0, (s .pre .1 .0, (c .before .loop-test .taken, (s .pre .1 .1 .0, room-kept (s .args .n) (c .before .before .loop .inv .marks) (s .pre .1 .1 .1)))))
+mark-class-requires : tie.Need-mark-class-requires Inv-loop μ-loop
+mark-class-requires c κs = let s = c .before .before .before .before .before .before .before .before .before in
+    (s .pre .0, (s .pre .1 .0, (s .pre .1 .1 .0, (c .before .loop-test .taken, (s .pre .1 .1 .1 .0, room-kept (s .args .n) (c .before .before .loop .inv .marks) (s .pre .1 .1 .1 .1))))))
 
 returns : tie.Need-returns Inv-loop μ-loop
 returns c = let s = c .before .before .before .before .before .before .before .before .args in all-classes (s .n) (now (s .apart)) (now (s .points)) (now (s .heights)) (marking-done (c .loop-test .left) (c .before .loop .inv))
@@ -27,9 +27,9 @@ mark-classes-spec =
     Inv-loop
     μ-loop
     (λ c. marking-start (now (c .before .before .before .before .before .before .args .pairs)))
-    mark-classes-of-requires
+    mark-class-requires
     (λ c. omega arith)
     (λ c. omega arith)
-    (λ c. marking-more (c .before .before .before .before .loop-test .taken) (c .before .before .before .before .before .loop .inv) (c .before .before .mark-classes-of .ensures))
+    (λ c. marking-more (c .before .before .before .before .loop-test .taken) (c .before .before .before .before .before .loop .inv) (c .before .before .mark-class .ensures))
     (λ c. c .before .loop .inv .marks .long)
     returns)

@@ -5,7 +5,6 @@ use native.Mathlib.Omega.{arith}
 use denote.Ref.{now}
 use borrow.Author.Needs.{needs}
 use Rattle.lists.specs.Booleans.{false-true}
-use Rattle.marking.specs.Marks.{product-small}
 use Rattle.marking.specs.Classes.{ZeroBytes, zero-start, zero-more, zero-none}
 use Rattle.marking.proofs.base.none_apart.Statement.{statement}
 use Rattle.marking.proofs.base.none_apart.Tie as tie
@@ -17,9 +16,9 @@ abbrev μ-loop : tie.MeasureT-loop
 μ-loop n a apart first last k₀ k-end k = k-end - k
 
 returns-2 : tie.Need-returns-2 Inv-loop μ-loop
-returns-2 c e = let s = c .before .before .before .before .before .before .before .args in
-    zero-none (s .n) (s .a) (let e = rw (c .before .before .before .index2 .ensures) at (c .before .before .pair-number2 .ensures) in omega (arith, c .loop-test .left, e))
-    (rw (c .before .before .before .before .pair-number .ensures, c .before .before .before .before .before .index .ensures) at (c .before .loop .inv))
+returns-2 c e = let s = c .before .before .before .before .before .args in
+    zero-none (s .n) (s .a) (omega (arith, c .loop-test .left, c .before .before .pair-number2 .ensures))
+    (rw (c .before .before .before .pair-number .ensures) at (c .before .loop .inv))
 
 pub none-apart-spec : {M : Type 1} → statement M
 none-apart-spec =
@@ -27,13 +26,11 @@ none-apart-spec =
     (tie.spec
     Inv-loop
     μ-loop
-    (λ c κs. search needs)
-    (λ c κs. let p = c .before .before .pre in record { few = p .0; left = omega (arith, p .1, c .index .ensures); right = omega (arith, p .1) })
-    (λ c κs. search needs)
-    (λ c. omega (arith, c .before .before .before .before .pre .1))
-    (λ c κs. let p = c .before .before .before .before .pre in record { few = p .0; left = omega (arith, p .1, c .index2 .ensures); right = omega (arith, p .1) })
+    (λ c κs. let p = c .before .pre in record { few = p .0; left = p .1; right = omega (arith, p .1) })
+    (λ c. omega (arith, c .before .before .pre .1))
+    (λ c κs. let p = c .before .before .pre in record { few = p .0; left = p .1; right = omega (arith, p .1) })
     (λ c. omega arith)
-    (λ c. zero-start _ (now (c .before .before .before .before .before .args .apart)))
+    (λ c. zero-start _ (now (c .before .before .before .args .apart)))
     (λ c κs. search needs)
     (λ c e. false-true refl e)
     (λ c. omega arith)
