@@ -1,18 +1,21 @@
 -- A pair table over homes, expanded to all terms: the bit of each pair is set whose homes' bit is set.
-use Prim.Native.Nat.{ℕ, _+_, _*_, _<_, _≤_}
-use mathlib.Core.Path.{_≡_, refl, _∙_}
+use Prim.Native.Nat.{ℕ, _+_, _*_, _/_, _%_, _<_, _≤_}
+use mathlib.Core.Path.{_≡_, refl, sym, _∙_}
 use mathlib.Core.Logic.{_≢_, _⊎_, inl, inr, ⊎-elim}
-use mathlib.Core.Bool.{Bool, true, false, _||_}
+use mathlib.Core.Bool.{Bool, true, false, not, _||_}
 use mathlib.Core.List.{List}
 use native.Mathlib.Omega.{arith}
 use lib.Dec.{eqb}
-use lib.ListN.{length}
-use borrow.Author.Tests.{eq-eqb}
+use lib.ListN.{length, List·getD-eq-default}
+use borrow.Author.Tests.{eq-eqb, not-true}
+use Rattle.lists.specs.Booleans.{and-true, both-true, false-true}
 use Rattle.lists.specs.Filled.{same-or-not}
 use Rattle.pairbits.specs.Bits.{isSet}
 use Rattle.points.specs.Homes.{home, Homes}
-use Rattle.buckets.specs.Buckets.{less-or-not}
-use Rattle.words.specs.Words.{inMask, NextCommon, Put}
+use Rattle.buckets.specs.Buckets.{less-or-not, NextOf}
+use Rattle.points.specs.Places.{class}
+use Rattle.marking.specs.Rows.{Below, MaskPair, OwnMask}
+use Rattle.words.specs.Words.{inMask, NextCommon, one-past, Put, Rest}
 use Rattle.marking.specs.Marks.{Adds, adds-already, adds-as, adds-none, adds-then, bit-cases, One, Upto}
 
 -- homes of n terms: each is its own home
@@ -81,6 +84,39 @@ hosts-more {k} {homes} {mask} {new} P H = record {
 pub hosts-done : {n k : ℕ} {homes mask : List ℕ} → n ≤ k → Hosts k homes mask → Hosts n homes mask
 hosts-done h H = record { long = H .long; host = λ t l. H .host t (omega arith) }
 
+-- the pairs of home i with the terms that are not their own homes are set, or their homes are in the mask
+pub record Covered (n : ℕ) (homes mask : List ℕ) (i : ℕ) (table : List ℕ) : Type 0 where
+  pub host : (t : ℕ) → t < n → home homes t ≢ t → (inMask mask (home homes t) ≡ true) ⊎ (isSet table (i * n + t) ≡ true)
+
+-- the bits of homes with the homes of their class are set
+pub record ClassSet (n : ℕ) (classes homes table : List ℕ) : Type 0 where
+  pub set : (i t : ℕ) → i < n → t < n → home homes i ≡ i → class classes i ≡ class classes t → home homes t ≢ i → isSet table (i * n + home homes t) ≡ true
+
+pub class-set-kept : {n : ℕ} {classes homes old new : List ℕ} → ((k : ℕ) → isSet old k ≡ true → isSet new k ≡ true) → ClassSet n classes homes old → ClassSet n classes homes new
+class-set-kept {n} {homes = homes} kept C = record { set = λ i t hi ht o e m. kept (i * n + home homes t) (C .set i t hi ht o e m) }
+
+-- the mask holds the terms of the class of i whose home is not i
+pub record Reach (n : ℕ) (classes homes : List ℕ) (i : ℕ) (mask : List ℕ) : Type 0 where
+  pub holds : (t : ℕ) → t < n → class classes t ≡ class classes i → home homes t ≢ i → inMask mask t ≡ true
+  pub only : (t : ℕ) → inMask mask t ≡ true → t < n → (class classes t ≡ class classes i) × (home homes t ≢ i)
+
+pub reach-rest : {n : ℕ} (classes homes : List ℕ) (i : ℕ) {own same mask : List ℕ} → n ≤ 512 → OwnMask n classes (class classes i) own → OwnMask n homes i same → Rest own same 8 mask → Reach n classes homes i mask
+reach-rest {n} classes homes i {own} {same} {mask} few O M R = record {
+  holds = λ t h e m. R .bits t (omega arith) ∙ both-true (inMask own t) _ (O .holds t h e) (out t m (inMask same t) refl);
+  only = λ t e h. let r = and-true (inMask own t) _ (sym (R .bits t (omega arith)) ∙ e) in (O .only t (r .0) .1, λ s. false-true (not-true _ (r .1)) (M .holds t h s));
+}
+  where
+    out : (t : ℕ) → home homes t ≢ i → (b : Bool) → inMask same t ≡ b → not b ≡ true
+    out t m true e = absurd (m (M .only t e .1))
+    out t m false e = refl
+
+pub rest-below : {n : ℕ} {own same mask : List ℕ} → Below n own → Rest own same 8 mask → Below n mask
+unfolding inMask
+rest-below {n} {own} {same} {mask} B R = record { below = λ v e. ⊎-elim (λ h. B .below v (and-true (inMask own v) _ (sym (R .bits v h) ∙ e) .0)) (λ h. false-true (past v h) e) (less-or-not (v / 64) 8) }
+  where
+    past : (v : ℕ) → 8 ≤ v / 64 → inMask mask v ≡ false
+    past v h = rw (List·getD-eq-default mask 0 {n = v / 64} (omega (arith, R .long))) (one-past 0 0 (v % 64) (omega arith) (omega arith))
+
 -- the pair (i, j), where v is the home of j
 abbrev pub GuestPair : List ℕ → ℕ → ℕ → ℕ → ℕ → ℕ → Type 0
 GuestPair homes i v j x y = (home homes j ≡ v) × One i j x y
@@ -95,6 +131,17 @@ RowBelow homes i v x y = (x ≡ i) × (home homes y < v)
 abbrev pub HomeRows : List ℕ → ℕ → ℕ → ℕ → Type 0
 HomeRows homes k x y = (x < k) × (home homes x ≡ x)
 
+-- those of the homes of class a before t; of the homes of the classes before a
+abbrev pub ClassRows : List ℕ → List ℕ → ℕ → ℕ → ℕ → ℕ → Type 0
+ClassRows classes homes a t x y = (class classes x ≡ a) × ((x < t) × (home homes x ≡ x))
+
+abbrev pub ClassesRows : List ℕ → List ℕ → ℕ → ℕ → ℕ → Type 0
+ClassesRows classes homes a x y = (class classes x < a) × (home homes x ≡ x)
+
+-- those of i with the terms of a mask
+abbrev pub ReachRow : List ℕ → ℕ → ℕ → ℕ → Type 0
+ReachRow reach i x y = (x ≡ i) × (inMask reach y ≡ true)
+
 abbrev pub GuestRows : List ℕ → ℕ → ℕ → ℕ → Type 0
 GuestRows homes k x y = (x < k) × (home homes x ≢ x)
 
@@ -106,6 +153,12 @@ CopyPair n h i table x y = (x ≡ i) × (isSet table (h * n + y) ≡ true)
 pub record Full (n : ℕ) (homes table : List ℕ) : Type 0 where
   pub there : (h y : ℕ) → h < n → y < n → home homes h ≡ h → isSet table (h * n + y) ≡ true → isSet table (h * n + home homes y) ≡ true
   pub back : (h y : ℕ) → h < n → y < n → home homes h ≡ h → isSet table (h * n + home homes y) ≡ true → isSet table (h * n + y) ≡ true
+
+-- a walk along the chain of class a that has expanded the rows of its homes before t
+pub record ClassLoop (n : ℕ) (classes homes : List ℕ) (a t : ℕ) (old new : List ℕ) : Type 0 where
+  pub upto : t ≤ n
+  pub here : t < n → class classes t ≡ a
+  pub done : ExpandedIn n homes (ClassRows classes homes a t) old new
 
 module _ (n : ℕ) (homes : List ℕ) where
   -- nothing to do where each term is its own home
@@ -150,9 +203,9 @@ module _ (n : ℕ) (homes : List ℕ) where
         (λ x y hx hy d. (left x y (d .0), d .1))
         (λ x y hx hy d. (right x y (d .0), homes-kept S a x y hx hy (d .1)))
 
-    module _ (i : ℕ) (hi : i < n) (own : home homes i ≡ i) {mask : List ℕ} (H : Hosts n homes mask) where
-      jump : (v r : ℕ) {old new : List ℕ} → ExpandedIn n homes (RowBelow homes i v) old new → NextCommon n (i * n) new mask v r → ExpandedIn n homes (RowBelow homes i r) old new
-      jump v r {old} {new} a N =
+    module _ (i : ℕ) (hi : i < n) (own : home homes i ≡ i) {mask start : List ℕ} (H : Covered n homes mask i start) where
+      jump : (v r : ℕ) {new : List ℕ} → ExpandedIn n homes (RowBelow homes i v) start new → NextCommon n (i * n) new mask v r → ExpandedIn n homes (RowBelow homes i r) start new
+      jump v r {new} a N =
           expanded-then (RowBelow homes i v) Between (RowBelow homes i r)
           (λ x y d. ⊎-elim (λ l. inl (d .0, l)) (λ g. inr (d .0, (g, d .1))) (less-or-not (home homes y) v))
           (λ x y d. let h = N .after in (d .0, omega (arith, d .1)))
@@ -167,14 +220,14 @@ module _ (n : ℕ) (homes : List ℕ) where
           set y hy g l w =
               ⊎-elim
               (λ (e : home homes y ≡ y). rw e at w)
-              (λ (m : home homes y ≢ y). absurd (N .none (home homes y) g l w (H .host y hy m)))
+              (λ (m : home homes y ≢ y). ⊎-elim (λ k. absurd (N .none (home homes y) g l w k)) (λ k. a .kept (i * n + y) k) (H .host y hy m))
               (same-or-not (home homes y) y)
 
-      pub row-first : (l : List ℕ) {r : ℕ} → NextCommon n (i * n) l mask 0 r → RowLoop i r l l
-      row-first l {r} N = record { done = jump 0 r (nothing (RowBelow homes i 0) l (λ x y d. let h = d .1 in omega arith)) N; hit = N .hit; few = N .few }
+      pub row-first : {r : ℕ} → NextCommon n (i * n) start mask 0 r → RowLoop i r start start
+      row-first {r} N = record { done = jump 0 r (nothing (RowBelow homes i 0) start (λ x y d. let h = d .1 in omega arith)) N; hit = N .hit; few = N .few }
 
-      pub row-next : {v r : ℕ} {old mid new : List ℕ} → v < n → RowLoop i v old mid → Adds n (Upto n (GuestPair homes i v)) mid new → NextCommon n (i * n) new mask (v + 1) r → RowLoop i r old new
-      row-next {v} {r} {old} {mid} {new} hv L A N = record {
+      pub row-next : {v r : ℕ} {mid new : List ℕ} → v < n → RowLoop i v start mid → Adds n (Upto n (GuestPair homes i v)) mid new → NextCommon n (i * n) new mask (v + 1) r → RowLoop i r start new
+      row-next {v} {r} {mid} {new} hv L A N = record {
         done = jump (v + 1) r
             (expanded-then (RowBelow homes i v) There (RowBelow homes i (v + 1))
             (λ x y d. ⊎-elim (λ l. inl (d .0, l)) (λ e. inr (d .0, e)) (last-or-before v (home homes y) (d .1)))
@@ -192,26 +245,77 @@ module _ (n : ℕ) (homes : List ℕ) where
           There : ℕ → ℕ → Type 0
           There x y = (x ≡ i) × (home homes y ≡ v)
 
-      pub row-done : {v : ℕ} {old new : List ℕ} → n ≤ v → RowLoop i v old new → ExpandedIn n homes (Row i) old new
+      pub row-done : {v : ℕ} {new : List ℕ} → n ≤ v → RowLoop i v start new → ExpandedIn n homes (Row i) start new
       row-done {v} h L = same-pairs (RowBelow homes i v) (Row i) (λ x y hx hy d. d .0) (λ x y hx hy d. (d, omega (arith, O .below y hy))) (L .done)
 
-    -- the rows of homes
-    pub home-rows-start : (l : List ℕ) → ExpandedIn n homes (HomeRows homes 0) l l
-    home-rows-start l = nothing (HomeRows homes 0) l (λ x y d. let h = d .0 in omega arith)
+    -- the row of home i: the terms of its class by a mask, then those whose homes are in another
+    module _ (classes : List ℕ) (i : ℕ) (hi : i < n) (own : home homes i ≡ i) {reach : List ℕ} (R : Reach n classes homes i reach) where
+      pub class-expanded : {old new : List ℕ} → ClassSet n classes homes old → Adds n (MaskPair reach i) old new → ExpandedIn n homes (ReachRow reach i) old new
+      class-expanded {old} C A =
+          adds-as n (MaskPair reach i) (λ x y. ReachRow reach i x y × HomesSet n homes old x y) A
+          (λ x y hx hy (e, (m, d)). let r = R .only y m hy in ((e, m), rw (e, own) (C .set i y hi hy own (sym (r .0)) (r .1))))
+          (λ x y hx hy ((e, m), w). (e, (m, λ s. R .only y m hy .1 (rw s own))))
 
-    pub home-rows-more : (k : ℕ) {old mid new : List ℕ} → home homes k ≡ k → ExpandedIn n homes (HomeRows homes k) old mid → ExpandedIn n homes (Row k) mid new → ExpandedIn n homes (HomeRows homes (k + 1)) old new
-    home-rows-more k e =
-        expanded-then (HomeRows homes k) (Row k) (HomeRows homes (k + 1))
-        (λ x y d. ⊎-elim (λ l. inl (l, d .1)) (λ s. inr s) (last-or-before k x (d .0)))
-        (λ x y d. (omega (arith, d .0), d .1))
-        (λ x y d. (omega (arith, d), rw d e))
+      pub class-covered :
+          {hosts others old new : List ℕ} → n ≤ 512 → ((t : ℕ) → t < n → class classes (home homes t) ≡ class classes t) → Hosts n homes hosts → Rest hosts reach 8 others →
+          Adds n (MaskPair reach i) old new → Covered n homes others i new
+      class-covered {hosts} {others} {old} {new} few same H T A = record { host = λ t h m. go t h m (inMask reach (home homes t)) refl }
+        where
+          go : (t : ℕ) → t < n → home homes t ≢ t → (b : Bool) → inMask reach (home homes t) ≡ b → (inMask others (home homes t) ≡ true) ⊎ (isSet new (i * n + t) ≡ true)
+          go t h m true e =
+              let r = R .only (home homes t) e (O .below t h) in
+              let d : home homes t ≢ i = λ s. r .1 (O .own t h ∙ s) in
+              inr (A .added i t hi h (refl, (R .holds t h (sym (same t h) ∙ r .0) d, λ s. d (rw s own))))
+          go t h m false e = inl (T .bits (home homes t) (let l = O .below t h in omega arith) ∙ rw (H .host t h m, e))
 
-    pub home-rows-skip : (k : ℕ) {old new : List ℕ} → home homes k ≢ k → ExpandedIn n homes (HomeRows homes k) old new → ExpandedIn n homes (HomeRows homes (k + 1)) old new
-    home-rows-skip k m a =
-        same-pairs (HomeRows homes k) (HomeRows homes (k + 1))
-        (λ x y hx hy d. (omega (arith, d .0), d .1))
-        (λ x y hx hy d. (⊎-elim (λ l. l) (λ (s : x ≡ k). absurd (m (rw s at (d .1)))) (last-or-before k x (d .0)), d .1))
-        a
+      pub row-expanded : {old mid new : List ℕ} → ExpandedIn n homes (ReachRow reach i) old mid → ExpandedIn n homes (Row i) mid new → ExpandedIn n homes (Row i) old new
+      row-expanded = expanded-then (ReachRow reach i) (Row i) (Row i) (λ x y d. inr d) (λ x y d. d .0) (λ x y d. d)
+
+    module _ (classes : List ℕ) where
+      -- the rows of the homes of class a before t
+      pub class-start : (a : ℕ) {f : ℕ} (l : List ℕ) → NextOf n (class classes) a 0 f → ClassLoop n classes homes a f l l
+      class-start a {f} l N = record { upto = N .inside; here = N .hit; done = nothing (ClassRows classes homes a f) l (λ x y (c, (h, o)). N .none x (omega arith) h c) }
+
+      next-row : {a t f x : ℕ} → NextOf n (class classes) (class classes t) (t + 1) f → class classes t ≡ a → x < f → class classes x ≡ a → (x < t) ⊎ (x ≡ t)
+      next-row {a} {t} {f} {x} N e h c = ⊎-elim inl (λ g. ⊎-elim inr (λ (m : x ≢ t). absurd (N .none x (omega arith) h (c ∙ sym e))) (same-or-not x t)) (less-or-not x t)
+
+      pub class-more : {a t f : ℕ} {old mid new : List ℕ} → t < n → home homes t ≡ t → NextOf n (class classes) (class classes t) (t + 1) f → ClassLoop n classes homes a t old mid → ExpandedIn n homes (Row t) mid new → ClassLoop n classes homes a f old new
+      class-more {a} {t} {f} ht o N L b = record {
+        upto = N .inside;
+        here = λ g. N .hit g ∙ L .here ht;
+        done = expanded-then (ClassRows classes homes a t) (Row t) (ClassRows classes homes a f)
+            (λ x y (c, (h, w)). ⊎-elim (λ l. inl (c, (l, w))) inr (next-row N (L .here ht) h c))
+            (λ x y (c, (h, w)). (c, (omega (arith, N .after), w)))
+            (λ x y e. (rw e (L .here ht), (omega (arith, N .after), rw e o)))
+            (L .done) b;
+      }
+
+      pub class-skip : {a t f : ℕ} {old new : List ℕ} → t < n → home homes t ≢ t → NextOf n (class classes) (class classes t) (t + 1) f → ClassLoop n classes homes a t old new → ClassLoop n classes homes a f old new
+      class-skip {a} {t} {f} ht m N L = record {
+        upto = N .inside;
+        here = λ g. N .hit g ∙ L .here ht;
+        done = same-pairs (ClassRows classes homes a t) (ClassRows classes homes a f)
+            (λ x y hx hy (c, (h, w)). (c, (omega (arith, N .after), w)))
+            (λ x y hx hy (c, (h, w)). (c, (⊎-elim (λ l. l) (λ (e : x ≡ t). absurd (m (rw e at w))) (next-row N (L .here ht) h c), w)))
+            (L .done);
+      }
+
+      pub class-done : {a t : ℕ} {old new : List ℕ} → n ≤ t → ClassLoop n classes homes a t old new → ExpandedIn n homes (ClassRows classes homes a n) old new
+      class-done {a} {t} h L = same-pairs (ClassRows classes homes a t) (ClassRows classes homes a n) (λ x y hx hy (c, (g, w)). (c, (hx, w))) (λ x y hx hy (c, (g, w)). (c, (omega arith, w))) (L .done)
+
+      -- class after class
+      pub classes-start : (l : List ℕ) → ExpandedIn n homes (ClassesRows classes homes 0) l l
+      classes-start l = nothing (ClassesRows classes homes 0) l (λ x y (c, o). let h = c in omega arith)
+
+      pub classes-more : (a : ℕ) {old mid new : List ℕ} → ExpandedIn n homes (ClassesRows classes homes a) old mid → ExpandedIn n homes (ClassRows classes homes a n) mid new → ExpandedIn n homes (ClassesRows classes homes (a + 1)) old new
+      classes-more a p q =
+          same-pairs (λ x y. ClassesRows classes homes a x y ⊎ ClassRows classes homes a n x y) (ClassesRows classes homes (a + 1))
+          (λ x y hx hy d. ⊎-elim (λ (c, o). (omega arith, o)) (λ (c, (h, o)). (omega arith, o)) d)
+          (λ x y hx hy (c, o). ⊎-elim (λ l. inl (l, o)) (λ e. inr (e, (hx, o))) (last-or-before a (class classes x) c))
+          (expanded-then (ClassesRows classes homes a) (ClassRows classes homes a n) (λ x y. ClassesRows classes homes a x y ⊎ ClassRows classes homes a n x y) (λ x y d. d) (λ x y d. inl d) (λ x y d. inr d) p q)
+
+      pub classes-done : (a : ℕ) {old new : List ℕ} → ((t : ℕ) → t < n → class classes t < n) → n ≤ a → ExpandedIn n homes (ClassesRows classes homes a) old new → ExpandedIn n homes (HomeRows homes n) old new
+      classes-done a low h p = same-pairs (ClassesRows classes homes a) (HomeRows homes n) (λ x y hx hy (c, o). (hx, o)) (λ x y hx hy (g, o). (let l = low x hx in omega arith, o)) p
 
     -- then those of the other terms
     pub guests-start : (l : List ℕ) → ExpandedIn n homes (GuestRows homes 0) l l
@@ -250,9 +354,6 @@ module _ (n : ℕ) (homes : List ℕ) where
 
     pub guests-done : (k : ℕ) {old new : List ℕ} → n ≤ k → ExpandedIn n homes (GuestRows homes k) old new → ExpandedIn n homes (GuestRows homes n) old new
     guests-done k h a = same-pairs (GuestRows homes k) (GuestRows homes n) (λ x y hx hy d. (hx, d .1)) (λ x y hx hy d. (omega arith, d .1)) a
-
-    pub home-rows-done : (k : ℕ) {old new : List ℕ} → n ≤ k → ExpandedIn n homes (HomeRows homes k) old new → ExpandedIn n homes (HomeRows homes n) old new
-    home-rows-done k h a = same-pairs (HomeRows homes k) (HomeRows homes n) (λ x y hx hy d. (hx, d .1)) (λ x y hx hy d. (omega arith, d .1)) a
 
     -- the rows of homes, where bits were in the columns of homes
     pub homes-full : {old new : List ℕ} → HomeColumns n homes old → ExpandedIn n homes (HomeRows homes n) old new → Full n homes new

@@ -1,5 +1,7 @@
 // The pair table of all terms, from the bits of their homes. Public for the crate `differences`.
 use buckets::chain;
+use marking::base::mark_masked;
+use marking::base::own_homes;
 use marking::bits::set_pair;
 use points::chains::CLASSES;
 use points::places::index;
@@ -9,19 +11,21 @@ use types::TermNumber;
 use words::next_common;
 use words::or_word;
 use words::put;
+use words::rest;
 use words::word_at;
 ghost use mathlib.Core.Path.{_≡_};
 ghost use mathlib.Core.Bool.{true};
 ghost use mathlib.Core.Logic.{_≢_};
-ghost use Prim.Native.Nat.{_*_, _<_, _≤_};
+ghost use Prim.Native.Nat.{ℕ, _*_, _<_, _≤_};
 ghost use lib.ListN.{length};
 ghost use Rattle.buckets.specs.Buckets.{Chains};
 ghost use Rattle.lists.specs.Lent.{before, after};
 ghost use Rattle.tables.specs.Limits.{most};
-ghost use Rattle.points.specs.Homes.{home};
-ghost use Rattle.points.specs.Places.{classSlots};
+ghost use Rattle.points.specs.Homes.{home, Homes};
+ghost use Rattle.points.specs.Places.{class, classSlots, Terms};
+ghost use Rattle.marking.specs.Rows.{OwnMask};
 ghost use Rattle.marking.specs.Marks.{Adds, Inside, Room, Upto};
-ghost use Rattle.expansion.specs.Expand.{AllOwn, CopyPair, Expanded, ExpandedIn, Full, GuestPair, GuestRows, HomeColumns, HomeRows, Hosts, Own, Row};
+ghost use Rattle.expansion.specs.Expand.{AllOwn, ClassRows, ClassSet, CopyPair, Covered, Expanded, ExpandedIn, Full, GuestPair, GuestRows, HomeColumns, HomeRows, Hosts, Own, Row};
 ghost use Rattle.expansion.specs.Rows.{RowWord};
 
 // Whether each term is its own home.
@@ -71,10 +75,102 @@ fn set_guests(
     }
 }
 
-// The pairs of home i with all terms.
+// The pairs of home i with the terms whose homes are in the mask.
+fn expand_others(
+    n: usize,
+    i: TermNumber,
+    homes: &[u32],
+    others: &[u64],
+    first: &[u16],
+    next: &[u16],
+    table: &mut [u8],
+)
+    requires { ⌜ (n ≤ most) × (Own n (now homes) × (Covered n (now homes) (now others) (i .0) (now table) × Chains n classSlots (now homes) (now first) (now next))) ⌝ }
+    requires { ⌜ (i .0 < n) × ((home (now homes) (i .0) ≡ i .0) × Room n (now table)) ⌝ }
+    ensures { λ _. ⌜ ExpandedIn n (before homes) (Row (i .0)) (before table) (after table) ⌝ }
+{
+    let start = i.0 * n;
+    let mut v = next_common(n, start, table, others, 0);
+    while v < n {
+        set_guests(n, i, v, homes, first, next, table);
+        v = next_common(n, start, table, others, v + 1);
+    }
+}
+
+// The pairs of home i with all terms: those of its class, `own`, by words.
 fn expand_row(
     n: usize,
     i: TermNumber,
+    classes: &[u32],
+    homes: &[u32],
+    own: &[u64],
+    hosts: &[u64],
+    first: &[u16],
+    next: &[u16],
+    table: &mut [u8],
+)
+    requires { ⌜ (n ≤ most) × (Own n (now homes) × (Hosts n (now homes) (now hosts) × Chains n classSlots (now homes) (now first) (now next))) ⌝ }
+    requires { ⌜ (i .0 < n) × ((home (now homes) (i .0) ≡ i .0) × (OwnMask n (now classes) (class (now classes) (i .0)) (now own) × Room n (now table))) ⌝ }
+    requires { ⌜ ((t : ℕ) → t < n → class (now classes) (home (now homes) t) ≡ class (now classes) t) × ClassSet n (now classes) (now homes) (now table) ⌝ }
+    ensures { λ _. ⌜ ExpandedIn n (before homes) (Row (i .0)) (before table) (after table) ⌝ }
+{
+    let mut same = [0u64; 8];
+    let mut reach = [0u64; 8];
+    let mut others = [0u64; 8];
+    own_homes(n, i.0, homes, first, next, &mut same);
+    rest(own, &same, &mut reach);
+    rest(hosts, &reach, &mut others);
+    mark_masked(n, i, &reach, table);
+    expand_others(n, i, homes, &others, first, next, table);
+}
+
+// The pairs of the homes of class a.
+fn expand_members(
+    n: usize,
+    a: usize,
+    classes: &[u32],
+    class_first: &[u16],
+    class_next: &[u16],
+    homes: &[u32],
+    own: &[u64],
+    hosts: &[u64],
+    first: &[u16],
+    next: &[u16],
+    table: &mut [u8],
+)
+    requires { ⌜ (n ≤ most) × (Own n (now homes) × (Hosts n (now homes) (now hosts) × Chains n classSlots (now homes) (now first) (now next))) ⌝ }
+    requires { ⌜ (a < n) × (Chains n classSlots (now classes) (now «class_first») (now «class_next») × (OwnMask n (now classes) a (now own) × Room n (now table))) ⌝ }
+    requires { ⌜ ((t : ℕ) → t < n → class (now classes) (home (now homes) t) ≡ class (now classes) t) × ClassSet n (now classes) (now homes) (now table) ⌝ }
+    ensures { λ _. ⌜ ExpandedIn n (before homes) (ClassRows (before classes) (before homes) a n) (before table) (after table) ⌝ }
+{
+    let mut t = linked(class_first, a);
+    while t < n {
+        let i = t;
+        t = linked(class_next, i);
+        if index(homes[i]) != i {
+            continue;
+        }
+        expand_row(
+            n,
+            TermNumber(i),
+            classes,
+            homes,
+            own,
+            hosts,
+            first,
+            next,
+            table,
+        );
+    }
+}
+
+// The same, with a mask of the terms of the class.
+fn expand_class(
+    n: usize,
+    a: usize,
+    classes: &[u32],
+    class_first: &[u16],
+    class_next: &[u16],
     homes: &[u32],
     hosts: &[u64],
     first: &[u16],
@@ -82,20 +178,33 @@ fn expand_row(
     table: &mut [u8],
 )
     requires { ⌜ (n ≤ most) × (Own n (now homes) × (Hosts n (now homes) (now hosts) × Chains n classSlots (now homes) (now first) (now next))) ⌝ }
-    requires { ⌜ (i .0 < n) × ((home (now homes) (i .0) ≡ i .0) × Room n (now table)) ⌝ }
-    ensures { λ _. ⌜ ExpandedIn n (before homes) (Row (i .0)) (before table) (after table) ⌝ }
+    requires { ⌜ (a < n) × (Chains n classSlots (now classes) (now «class_first») (now «class_next») × Room n (now table)) ⌝ }
+    requires { ⌜ ((t : ℕ) → t < n → class (now classes) (home (now homes) t) ≡ class (now classes) t) × ClassSet n (now classes) (now homes) (now table) ⌝ }
+    ensures { λ _. ⌜ ExpandedIn n (before homes) (ClassRows (before classes) (before homes) a n) (before table) (after table) ⌝ }
 {
-    let start = i.0 * n;
-    let mut v = next_common(n, start, table, hosts, 0);
-    while v < n {
-        set_guests(n, i, v, homes, first, next, table);
-        v = next_common(n, start, table, hosts, v + 1);
-    }
+    let mut own = [0u64; 8];
+    own_homes(n, a, classes, class_first, class_next, &mut own);
+    expand_members(
+        n,
+        a,
+        classes,
+        class_first,
+        class_next,
+        homes,
+        &own,
+        hosts,
+        first,
+        next,
+        table,
+    );
 }
 
 // The pairs of all homes.
 fn expand_homes(
     n: usize,
+    classes: &[u32],
+    class_first: &[u16],
+    class_next: &[u16],
     homes: &[u32],
     hosts: &[u64],
     first: &[u16],
@@ -103,14 +212,23 @@ fn expand_homes(
     table: &mut [u8],
 )
     requires { ⌜ (n ≤ most) × (Own n (now homes) × (Hosts n (now homes) (now hosts) × Chains n classSlots (now homes) (now first) (now next))) ⌝ }
-    requires { ⌜ Room n (now table) ⌝ }
+    requires { ⌜ ((t : ℕ) → t < n → class (now classes) t < n) × (Chains n classSlots (now classes) (now «class_first») (now «class_next») × Room n (now table)) ⌝ }
+    requires { ⌜ ((t : ℕ) → t < n → class (now classes) (home (now homes) t) ≡ class (now classes) t) × ClassSet n (now classes) (now homes) (now table) ⌝ }
     ensures { λ _. ⌜ ExpandedIn n (before homes) (HomeRows (before homes) n) (before table) (after table) ⌝ }
 {
-    for i in 0..n {
-        if index(homes[i]) != i {
-            continue;
-        }
-        expand_row(n, TermNumber(i), homes, hosts, first, next, table);
+    for a in 0..n {
+        expand_class(
+            n,
+            a,
+            classes,
+            class_first,
+            class_next,
+            homes,
+            hosts,
+            first,
+            next,
+            table,
+        );
     }
 }
 
@@ -155,8 +273,9 @@ fn copy_rows(n: usize, homes: &[u32], table: &mut [u8])
 }
 
 // Sets the bit of each pair whose homes' bit is set. In place: the bit of a pair of homes is set only if it was.
-pub fn expand(n: usize, homes: &[u32], table: &mut [u8])
-    requires { ⌜ (n ≤ most) × (Own n (now homes) × (HomeColumns n (now homes) (now table) × Room n (now table))) ⌝ }
+pub fn expand(n: usize, classes: &[u32], heights: &[u64], homes: &[u32], table: &mut [u8])
+    requires { ⌜ Terms n (now classes) (now heights) × Homes n (now classes) (now heights) (now homes) ⌝ }
+    requires { ⌜ ClassSet n (now classes) (now homes) (now table) × (HomeColumns n (now homes) (now table) × Room n (now table)) ⌝ }
     ensures { λ _. ⌜ Expanded n (before homes) (before table) (after table) ⌝ }
 {
     if all_own(n, homes) {
@@ -165,8 +284,21 @@ pub fn expand(n: usize, homes: &[u32], table: &mut [u8])
     let mut hosts = [0u64; 8];
     let mut first = [0u16; CLASSES];
     let mut next = [0u16; MOST];
+    let mut class_first = [0u16; CLASSES];
+    let mut class_next = [0u16; MOST];
     mark_hosts(n, homes, &mut hosts);
     chain(n, homes, &mut first, &mut next);
-    expand_homes(n, homes, &hosts, &first, &next, table);
+    chain(n, classes, &mut class_first, &mut class_next);
+    expand_homes(
+        n,
+        classes,
+        &class_first,
+        &class_next,
+        homes,
+        &hosts,
+        &first,
+        &next,
+        table,
+    );
     copy_rows(n, homes, table);
 }

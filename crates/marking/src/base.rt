@@ -109,7 +109,7 @@ fn none_apart(n: usize, a: usize, apart: &[u8]) -> bool
 }
 
 // Puts the homes of class a into a mask.
-fn own_homes(
+pub fn own_homes(
     n: usize,
     a: usize,
     points: &[u32],
@@ -128,7 +128,7 @@ fn own_homes(
 }
 
 // The pairs of i with the terms of a mask, but for i itself, by words.
-fn mark_masked(n: usize, i: TermNumber, mask: &[u64], pairs: &mut [u8])
+pub fn mark_masked(n: usize, i: TermNumber, mask: &[u64], pairs: &mut [u8])
     requires { ⌜ Below n (now mask) × (Inside n (i .0) (i .0) × Room n (now pairs)) ⌝ }
     ensures { λ _. ⌜ Adds n (MaskPair (before mask) (i .0)) (before pairs) (after pairs) ⌝ }
 {

@@ -570,3 +570,33 @@ module _ {n start : ℕ} {table mask : List ℕ} {from v : ℕ} where
       few = omega arith;
       none = λ u a g s i. by-place u ((v / 64 + 1) * 64) (λ hv hu. before-bit u hv (omega arith) (omega arith)) a g s i;
     }
+
+-- the first w words of a mask are those of x without the numbers of y
+pub record Rest (x y : List ℕ) (w : ℕ) (rest : List ℕ) : Type 0 where
+  pub long : length rest ≡ 8
+  pub bits : (v : ℕ) → v / 64 < w → inMask rest v ≡ (inMask x v && not (inMask y v))
+
+pub rest-start : {x y rest : List ℕ} → length rest ≡ 8 → Rest x y 0 rest
+rest-start e = record { long = e; bits = λ v h. absurd (omega arith) }
+
+one-minus : (x y b : ℕ) → isOne (bitAnd x (bitXor x y)) b ≡ (isOne x b && not (isOne y b))
+one-minus x y b = one-and x (bitXor x y) b ∙ go (isOne x b) refl
+  where
+    go : (t : Bool) → isOne x b ≡ t → (t && isOne (bitXor x y) b) ≡ (t && not (isOne y b))
+    go true e = one-xor x y b e
+    go false e = refl
+
+pub rest-more : {x y rest : List ℕ} {w p q : ℕ} → w < 8 → p ≡ getD x w 0 → q ≡ getD y w 0 → Rest x y w rest → Rest x y (w + 1) (set rest w (bitAnd p (bitXor p q)))
+unfolding inMask
+rest-more {x} {y} {rest} {w} {p} {q} h e f R = record {
+  long = length-set rest w _ ∙ R .long;
+  bits = λ v g.
+      ⊎-elim
+      (λ (s : v / 64 ≡ w). rw (s, getD-set-same rest w (bitAnd p (bitXor p q)) 0 (omega (arith, R .long)), one-minus p q (v % 64), e, f))
+      (λ (m : v / 64 ≢ w). rw (getD-set-other rest w (v / 64) (bitAnd p (bitXor p q)) 0 m) (R .bits v (omega arith)))
+      (same-or-not (v / 64) w);
+}
+
+-- a word of 0 sets nothing
+pub ored-zero : (l : List ℕ) (at w : ℕ) → Ored l at w 0 l
+ored-zero l at w = record { long = refl; bytes = λ h. h; kept = λ i e. e; added = λ b h e. false-true (one-past 0 0 b (omega arith) (omega arith)) e; only = λ i e. inl e }

@@ -9,7 +9,7 @@ ghost use lib.ListN.{length, getD};
 ghost use Rattle.lists.specs.Lent.{before, after};
 ghost use Rattle.outcome.specs.PairBits.{bitValue};
 ghost use Rattle.pairbits.specs.Bits.{isSet};
-ghost use Rattle.words.specs.Words.{Common, Lowest, NextCommon, Ored, Put, Spells, Without};
+ghost use Rattle.words.specs.Words.{Common, Lowest, NextCommon, Ored, Put, Rest, Spells, Without};
 
 fn wide(byte: u8) -> u64
     ensures { λ r. ⌜ (r ≡ byte) × (r < 256) ⌝ }
@@ -147,6 +147,9 @@ pub fn or_word(bytes: &mut [u8], at: usize, x: u64)
 {
     let k = at / 8;
     let s = at % 8;
+    if x == 0 {
+        return;
+    }
     if bytes.len() <= k + 8 {
         or_last(bytes, at, x);
         return;
@@ -254,4 +257,15 @@ pub fn next_common(n: usize, start: usize, table: &[u8], mask: &[u64], from: usi
         v = (v / 64 + 1) * 64;
     }
     v
+}
+
+// The numbers of one mask that are not in another.
+pub fn rest(x: &[u64], y: &[u64], rest: &mut [u64])
+    requires { ⌜ length (now rest) ≡ 8 ⌝ }
+    ensures { λ _. ⌜ Rest (before x) (before y) 8 (after rest) ⌝ }
+{
+    for w in 0..8 {
+        let word = mask_word(x, w);
+        rest[w] = word & (word ^ mask_word(y, w));
+    }
 }

@@ -1,61 +1,73 @@
--- `expansion::expand_row` meets its contract. The invariant: the terms whose homes are before v are done.
-use Prim.Native.Nat.{_+_, _-_}
+-- `expansion::expand_row` meets its contract.
+use Prim.Native.Nat.{ℕ}
+use mathlib.Core.Path.{refl}
+use lib.ListN.{length-replicate}
 use native.Mathlib.Omega.{arith}
 use denote.Ref.{now}
-use Rattle.marking.specs.Marks.{product-small, room-kept}
-use Rattle.expansion.specs.Expand.{RowLoop, row-first, row-next, row-done}
+use Rattle.marking.specs.Marks.{room-kept}
+use Rattle.marking.specs.Rows.{own-below}
+use Rattle.expansion.specs.Expand.{class-covered, class-expanded, reach-rest, rest-below, row-expanded}
+use borrow.Author.Needs.{needs}
 use Rattle.expansion.proofs.expand_row.Statement.{statement}
 use Rattle.expansion.proofs.expand_row.Tie as tie
 
-abbrev Inv-loop : tie.InvT-loop
-Inv-loop n i homes hosts first next table₀ start v₀ table v = RowLoop n homes (i .0) v table₀ table
+slice-aggregate-own-homes : tie.Need-slice-aggregate-own-homes
+slice-aggregate-own-homes c = search needs
 
-abbrev μ-loop : tie.MeasureT-loop
-μ-loop n i homes hosts first next table₀ start v₀ table v = n - v
+own-homes-requires : tie.Need-own-homes-requires
+own-homes-requires c κs = let s = (c .before .before .before .before .before .before .before .before) in let a = s .args in let p = s .pre .0 in let q = s .pre .1 .0 in let t = s .pre .1 .1 in (p .1 .1 .1, (p .0, (q .0, refl)))
 
-mul-start : tie.Need-mul-start Inv-loop μ-loop
-mul-start c = let s = (c .before .before .before .before .before .before) in let p = s .pre .0 in let q = s .pre .1 in omega (arith, product-small (s .args .n) (s .args .i .0) (p .0) (q .0))
+slice-aggregate-rest : tie.Need-slice-aggregate-rest
+slice-aggregate-rest c = search needs
 
-next-common-requires : tie.Need-next-common-requires Inv-loop μ-loop
-next-common-requires c κs = let s = (c .before .before .before .before .before .before .before) in let p = s .pre .0 in let q = s .pre .1 in (omega (arith, product-small (s .args .n) (s .args .i .0) (p .0) (q .0), p .0), omega arith)
+slice-aggregate-rest-2 : tie.Need-slice-aggregate-rest-2
+slice-aggregate-rest-2 c = search needs
 
-loop-holds : tie.Need-loop-holds Inv-loop μ-loop
-loop-holds c = let s = (c .before .before .before .before .before .before .before .before) in let p = s .pre .0 in let q = s .pre .1 in row-first (s .args .n) (now (s .args .homes)) (p .1 .0) (s .args .i .0) (q .0) (q .1 .0) (p .1 .1 .0) (now (s .args .table)) (c .next-common .ensures)
+rest-requires : tie.Need-rest-requires
+rest-requires c κs = length-replicate {A = ℕ} 8 0
 
-set-guests-requires : tie.Need-set-guests-requires Inv-loop μ-loop
-set-guests-requires c κs = let s = (c .before .before .before .before .before .before .before .before .before .before .before) in let p = s .pre .0 in let q = s .pre .1 in (record { few = p .0; left = q .0; right = (c .before) .loop-test .taken }, (p .1 .1 .1, room-kept (s .args .n) ((c .before .before) .loop .inv .done) (q .1 .1)))
+slice-aggregate-rest-3 : tie.Need-slice-aggregate-rest-3
+slice-aggregate-rest-3 c = search needs
 
-add-next-common : tie.Need-add-next-common Inv-loop μ-loop
-add-next-common c = let s = (c .before .before .before .before .before .before .before .before .before .before .before .before .before .before .before) in let p = s .pre .0 in let q = s .pre .1 in omega (arith, (c .before .before .before .before .before) .loop-test .taken, p .0)
+slice-aggregate-rest-4 : tie.Need-slice-aggregate-rest-4
+slice-aggregate-rest-4 c = search needs
 
-next-common-requires-2 : tie.Need-next-common-requires-2 Inv-loop μ-loop
-next-common-requires-2 c κs = let s = (c .before .before .before .before .before .before .before .before .before .before .before .before .before .before .before) in let p = s .pre .0 in let q = s .pre .1 in (omega (arith, product-small (s .args .n) (s .args .i .0) (p .0) (q .0), p .0), omega (arith, (c .before .before .before .before .before) .loop-test .taken))
+rest-requires-2 : tie.Need-rest-requires-2
+rest-requires-2 c κs = length-replicate {A = ℕ} 8 0
 
-loop-less : tie.Need-loop-less Inv-loop μ-loop
-loop-less c = omega (arith, c .next-common2 .ensures .after, (c .before .before .before .before .before .before) .loop-test .taken)
+slice-aggregate-mark-masked : tie.Need-slice-aggregate-mark-masked
+slice-aggregate-mark-masked c = search needs
 
-loop-again : tie.Need-loop-again Inv-loop μ-loop
-loop-again c = let s = (c .before .before .before .before .before .before .before .before .before .before .before .before .before .before .before .before) in let p = s .pre .0 in let q = s .pre .1 in row-next (s .args .n) (now (s .args .homes)) (p .1 .0) (s .args .i .0) (q .0) (q .1 .0) (p .1 .1 .0) ((c .before .before .before .before .before .before) .loop-test .taken) ((c .before .before .before .before .before .before .before) .loop .inv) ((c .before .before .before .before) .set-guests .ensures) (c .next-common2 .ensures)
+mark-masked-requires : tie.Need-mark-masked-requires
+mark-masked-requires c κs = let s = (c .before .before .before .before .before .before .before .before .before .before .before .before .before .before .before .before .before .before .before .before) in let a = s .args in let p = s .pre .0 in let q = s .pre .1 .0 in let t = s .pre .1 .1 in (rest-below (own-below (q .1 .1 .0)) ((c .before .before .before .before .before .before .before) .rest .ensures), (record { few = p .0; left = q .0; right = q .0 }, q .1 .1 .1))
 
-same-length : tie.Need-same-length Inv-loop μ-loop
-same-length c = (c .before) .loop .inv .done .long
+slice-aggregate-expand-others : tie.Need-slice-aggregate-expand-others
+slice-aggregate-expand-others c = search needs
 
-returns : tie.Need-returns Inv-loop μ-loop
-returns c = let s = (c .before .before .before .before .before .before .before .before .before .before) in let p = s .pre .0 in let q = s .pre .1 in row-done (s .args .n) (now (s .args .homes)) (p .1 .0) (s .args .i .0) (q .0) (q .1 .0) (p .1 .1 .0) (c .loop-test .left) ((c .before) .loop .inv)
+expand-others-requires : tie.Need-expand-others-requires
+expand-others-requires c κs = let s = (c .before .before .before .before .before .before .before .before .before .before .before .before .before .before .before .before .before .before .before .before .before .before .before .before .before) in let a = s .args in let p = s .pre .0 in let q = s .pre .1 .0 in let t = s .pre .1 .1 in let m = (c .before .before .before .before) .mark-masked .ensures in ((p .0, (p .1 .0, (class-covered (a .n) (now (a .homes)) (p .1 .0) (now (a .classes)) (a .i .0) (q .0) (q .1 .0) (reach-rest (now (a .classes)) (now (a .homes)) (a .i .0) (p .0) (q .1 .1 .0) ((c .before .before .before .before .before .before .before .before .before .before .before .before .before .before .before .before) .own-homes .ensures) ((c .before .before .before .before .before .before .before .before .before .before .before .before) .rest .ensures)) (p .0) (t .0) (p .1 .1 .0) ((c .before .before .before .before .before .before .before .before) .rest2 .ensures) m, p .1 .1 .1))), (q .0, (q .1 .0, room-kept (a .n) m (q .1 .1 .1))))
+
+same-length : tie.Need-same-length
+same-length c = search needs
+
+returns : tie.Need-returns
+returns c = let s = (c .before .before .before .before .before .before .before .before .before .before .before .before .before .before .before .before .before .before .before .before .before .before .before .before .before .before .before .before) in let a = s .args in let p = s .pre .0 in let q = s .pre .1 .0 in let t = s .pre .1 .1 in row-expanded (a .n) (now (a .homes)) (p .1 .0) (now (a .classes)) (a .i .0) (q .0) (q .1 .0) (reach-rest (now (a .classes)) (now (a .homes)) (a .i .0) (p .0) (q .1 .1 .0) ((c .before .before .before .before .before .before .before .before .before .before .before .before .before .before .before .before .before .before .before) .own-homes .ensures) ((c .before .before .before .before .before .before .before .before .before .before .before .before .before .before .before) .rest .ensures)) (class-expanded (a .n) (now (a .homes)) (p .1 .0) (now (a .classes)) (a .i .0) (q .0) (q .1 .0) (reach-rest (now (a .classes)) (now (a .homes)) (a .i .0) (p .0) (q .1 .1 .0) ((c .before .before .before .before .before .before .before .before .before .before .before .before .before .before .before .before .before .before .before) .own-homes .ensures) ((c .before .before .before .before .before .before .before .before .before .before .before .before .before .before .before) .rest .ensures)) (t .1) ((c .before .before .before .before .before .before .before) .mark-masked .ensures)) ((c .before .before) .expand-others .ensures)
 
 pub expand-row-spec : {M : Type 1} → statement M
 expand-row-spec =
     tie.close
     (tie.spec
-    Inv-loop
-    μ-loop
-    mul-start
-    next-common-requires
-    loop-holds
-    set-guests-requires
-    add-next-common
-    next-common-requires-2
-    loop-less
-    loop-again
+    slice-aggregate-own-homes
+    own-homes-requires
+    slice-aggregate-rest
+    slice-aggregate-rest-2
+    rest-requires
+    slice-aggregate-rest-3
+    slice-aggregate-rest-4
+    rest-requires-2
+    slice-aggregate-mark-masked
+    mark-masked-requires
+    slice-aggregate-expand-others
+    expand-others-requires
     same-length
     returns)
