@@ -403,6 +403,21 @@ module _ (S : Setting) (r : ℕ) (leads : List ℕ) where
   pub record ClosedTable (table : List ℕ) (k : ℕ) : Type 0 where
     pub rows : (u : ℕ) → u < k → ClosedRow table (lead leads u)
 
+  -- x with those of the first l leads that are before it
+  pub record ClosedLeads (table : List ℕ) (x l : ℕ) : Type 0 where
+    pub terms : (v : ℕ) → v < l → lead leads v < x → Closed S table x (lead leads v)
+
+  -- a loop along the leads: as long as nothing is set, x is closed with the first l
+  pub record LeadLoop (x l : ℕ) (c : Bool) (old new doneOld doneNew : List ℕ) : Type 0 where
+    pub upto : l ≤ r
+    pub step : Step S c old new doneOld doneNew
+    pub closed : c ≡ false → ClosedLeads new x l
+
+  -- x with all of them
+  pub record Sweeping (x : ℕ) (c : Bool) (old new doneOld doneNew : List ℕ) : Type 0 where
+    pub step : Step S c old new doneOld doneNew
+    pub closed : c ≡ false → ClosedRow new x
+
   -- a loop over the rows
   pub record SweepingAll (k : ℕ) (c : Bool) (old new doneOld doneNew : List ℕ) : Type 0 where
     pub step : Step S c old new doneOld doneNew
@@ -491,23 +506,56 @@ module _ {S : Setting} {keys : List ℕ} where
     row-left e L q = record { step = rw e at (step-then (L .step) (q .step)); closed = λ f. false-true f refl }
 
 module _ {S : Setting} {r : ℕ} {leads : List ℕ} where
+  module _ {x : ℕ} where
+    pub lead-start : {l done : List ℕ} → Kept S l done → LeadLoop S r leads x 0 false l l done done
+    lead-start K = record { upto = omega arith; step = step-none K; closed = λ _. record { terms = λ v h. absurd (omega arith) } }
+
+    pub lead-closed : {l : ℕ} {c : Bool} {old new doneOld doneNew : List ℕ} → l < r → LeadLoop S r leads x l c old new doneOld doneNew → (lead leads l < x → Closed S new x (lead leads l)) → LeadLoop S r leads x (l + 1) c old new doneOld doneNew
+    lead-closed {l} h L here = record {
+      upto = omega arith;
+      step = L .step;
+      closed = λ e. record { terms = λ v g b. ⊎-elim (λ (s : v ≡ l). rw s (here (rw s at b))) (λ (m : v ≢ l). L .closed e .terms v (omega arith) b) (same-or-not v l) };
+    }
+
+    pub lead-more :
+        {l : ℕ} {a b : Bool} {old mid new doneOld doneMid doneNew : List ℕ} → l < r → LeadLoop S r leads x l a old mid doneOld doneMid → Looked S b mid new doneMid doneNew x (lead leads l) →
+        LeadLoop S r leads x (l + 1) (a || b) old new doneOld doneNew
+    lead-more {l} {a} {b} {new = new} h L q = record {
+      upto = omega arith;
+      step = step-then (L .step) (q .step);
+      closed = λ e. both (or-false a b e .0) (or-false a b e .1);
+    }
+      where
+        both : a ≡ false → b ≡ false → ClosedLeads S r leads new x (l + 1)
+        both e f = record { terms = λ v g d. ⊎-elim (λ (s : v ≡ l). rw s (q .closed f)) (λ (m : v ≢ l). rw (q .step .same f) (L .closed e .terms v (omega arith) d)) (same-or-not v l) }
+
+    pub lead-done : {l : ℕ} {c : Bool} {old new doneOld doneNew : List ℕ} → r ≤ l → LeadLoop S r leads x l c old new doneOld doneNew → Sweeping S r leads x c old new doneOld doneNew
+    lead-done h L = record { step = L .step; closed = λ e. record { row = λ v g b. L .closed e .terms v (omega arith) b } }
+
+    pub lead-left : {l : ℕ} {a b : Bool} {old mid new doneOld doneMid doneNew : List ℕ} → (a || b) ≡ true → LeadLoop S r leads x l a old mid doneOld doneMid → Looked S b mid new doneMid doneNew x (lead leads l) → Sweeping S r leads x true old new doneOld doneNew
+    lead-left e L q = record { step = rw e at (step-then (L .step) (q .step)); closed = λ f. false-true f refl }
+
+    -- the same by chains
+    pub sweeping-chains :
+        {b : Bool} {keys mask old new doneOld doneNew : List ℕ} → Ready S → Listing (S .n) r leads → LeadKeys (S .n) r (S .homes) leads keys mask →
+        RowSwept S keys mask x b old new doneOld doneNew → Sweeping S r leads x b old new doneOld doneNew
+    sweeping-chains Y I K q = record { step = q .step; closed = λ e. record { row = λ v g l. q .closed e .below (lead leads v) l (K .key v g) (K .host v g) (Y .looks .homes-below (lead leads v) (I .below v g)) } }
+
   pub sweeping-all-start : {l done : List ℕ} → Kept S l done → SweepingAll S r leads 0 false l l done done
   sweeping-all-start K = record { step = step-none K; closed = λ _. record { rows = λ u h. absurd (omega arith) } }
 
   pub sweeping-all-more :
-      {k : ℕ} {a b : Bool} {keys mask old mid new doneOld doneMid doneNew : List ℕ} → Ready S → Listing (S .n) r leads → LeadKeys (S .n) r (S .homes) leads keys mask →
-      SweepingAll S r leads k a old mid doneOld doneMid → RowSwept S keys mask (lead leads k) b mid new doneMid doneNew → SweepingAll S r leads (k + 1) (a || b) old new doneOld doneNew
-  sweeping-all-more {k} {a} {b} Y I K p q = record {
+      {k : ℕ} {a b : Bool} {old mid new doneOld doneMid doneNew : List ℕ} →
+      SweepingAll S r leads k a old mid doneOld doneMid → Sweeping S r leads (lead leads k) b mid new doneMid doneNew → SweepingAll S r leads (k + 1) (a || b) old new doneOld doneNew
+  sweeping-all-more {k} {a} {b} p q = record {
     step = step-then (p .step) (q .step);
-    closed = λ e.
-        let s = or-false a b e in
-        record {
-          rows = λ u h.
-              ⊎-elim
-              (λ (t : u ≡ k). rw t (record { row = λ v g l. q .closed (or-false a b e .1) .below (lead leads v) l (K .key v g) (K .host v g) (Y .looks .homes-below (lead leads v) (I .below v g)) }))
-              (λ (d : u ≢ k). rw (q .step .same (or-false a b e .1)) (p .closed (or-false a b e .0) .rows u (omega arith)))
-              (same-or-not u k);
-        };
+    closed = λ e. record {
+      rows = λ u h.
+          ⊎-elim
+          (λ (t : u ≡ k). rw t (q .closed (or-false a b e .1)))
+          (λ (d : u ≢ k). rw (q .step .same (or-false a b e .1)) (p .closed (or-false a b e .0) .rows u (omega arith)))
+          (same-or-not u k);
+    };
   }
 
   pub sweeping-all-left : {k m : ℕ} {a : Bool} {old new doneOld doneNew : List ℕ} → a ≡ true → SweepingAll S r leads k a old new doneOld doneNew → SweepingAll S r leads m true old new doneOld doneNew

@@ -19,7 +19,7 @@ use Rattle.points.specs.Places.{class, height, AtEither, Column, Terms}
 use Rattle.marking.specs.Classes.{classesDiffer, Listed, ListedPair, otherHeight, placesDiffer, PointsDiffer, Sides, sidesDiffer, other-moved, other-parts, parts-other}
 use Rattle.marking.specs.Known.{Moving, Uniform, either-moving, uniform-adds}
 use Rattle.differences.specs.Settle.{Done, HoldsIn, InverseOf, Setting, setting, Settled, one-class, apart-classes, moved}
-use Rattle.expansion.specs.Expand.{Expanded, HomeColumns}
+use Rattle.expansion.specs.Expand.{ClassSet, Expanded, HomeColumns}
 
 pub zeros-room : (n : ℕ) (old l : List ℕ) → l ≡ zeros (length old) → Room n old → Room n l
 zeros-room n old l e h = rw e (omega (arith, length-replicate {A = ℕ} (length old) 0))
@@ -176,6 +176,16 @@ module _ (n m : ℕ) (classes heights homes points reads readHeights leads leftC
 
       pub home-columns : HomeColumns n homes old
       home-columns = record { column = λ i j hi hj e. is-home j hj (have-classes i j hi hj e .1) }
+
+      pub class-set : ClassSet n classes homes old
+      unfolding classesDiffer
+      class-set = record {
+        set = λ i t hi ht o e m.
+            let g : placesDiffer n apart classes heights i t ≡ true =
+            or-second (isSet apart (class classes i * n + class classes t)) _ (parts-other (class classes i) (height heights i) (class classes t) (height heights t) e (λ f. m (sym (H .unique i t hi ht e f) ∙ o))) in
+            let k = home homes i * n + home homes t in
+            rw o at (d .grows .kept k (b .kept k (a .added (home homes i) (home homes t) (H .below i hi) (H .below t ht) (differ-home i t hi ht g))));
+      }
 
       module _ {new : List ℕ} (x : Expanded n homes old new) where
         -- a bit is set where that of the homes is

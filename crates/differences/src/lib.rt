@@ -156,7 +156,7 @@ fn fill_table(
         pairs,
         &mut notes,
     );
-    expand(n, homes, pairs);
+    expand(n, classes, heights, homes, pairs);
 }
 
 // The pair table of a set: bit i * n + j is 1 where term i is different from 0 + term j. Public for the crate `columns`.

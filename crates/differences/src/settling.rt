@@ -25,6 +25,7 @@ use points::places::slot;
 use types::MOST;
 use types::PAIR_BYTES;
 use types::TermNumber;
+use words::count_common;
 use words::next_common;
 use words::put;
 ghost use mathlib.Core.Path.{_≡_};
@@ -40,7 +41,7 @@ ghost use Rattle.points.specs.Places.{AtEither, Chained, classSlots, Column, to
 ghost use Rattle.tables.specs.Limits.{most};
 ghost use Rattle.marking.specs.Marks.{Adds, Inside, Room};
 ghost use Rattle.marking.specs.Known.{Uniform};
-ghost use Rattle.differences.specs.Settle.{Done, Kept, KeySwept, LeadKeys, LeadsOn, Listing, Looked, Looks, Moved, Reading, Ready, Repeated, RowSwept, setting, Step, SweepingAll, valueBit};
+ghost use Rattle.differences.specs.Settle.{Done, Kept, KeySwept, LeadKeys, LeadsOn, Listing, Looked, Looks, Moved, Reading, Ready, Repeated, RowSwept, setting, Step, Sweeping, SweepingAll, valueBit};
 
 // The bucket of the distance between what x and y read. Nothing relies on it.
 fn fact_bucket(a: u32, p: u64, b: u32, q: u64) -> usize
@@ -747,6 +748,173 @@ fn sweep_row(
     changed
 }
 
+// The same along all leads, which takes less time where the bits of many homes with that of x are set.
+fn sweep_leads(
+    n: usize,
+    limit: u32,
+    x: TermNumber,
+    count: usize,
+    leads: &[u16],
+    points: &[u32],
+    heights: &[u64],
+    class_first: &[u16],
+    class_next: &[u16],
+    slot_first: &[u16],
+    slot_next: &[u16],
+    homes: &[u32],
+    reads: &[u32],
+    read_heights: &[u64],
+    apart: &[u8],
+    levels: &[u16],
+    from: &[u16],
+    order: &[u16],
+    starts: &[u32],
+    entries: &[u8],
+    pairs: &mut [u8],
+    done: &mut [u8],
+    notes: &mut Notes,
+) -> bool
+    requires { ⌜ Chained n (now points) (now heights) (now «class_first») (now «class_next») (now «slot_first») (now «slot_next») × Indexed n (now points) (now heights) (now apart) (now levels) (now from) (now order) (now starts) (now entries) ⌝ }
+    requires { ⌜ (let S = setting n (now points) (now heights) (now homes) (now reads) (now «read_heights») (now apart) in Ready S × Kept S (now pairs) (now done)) ⌝ }
+    requires { ⌜ (x .0 < n) × Listing n count (now leads) ⌝ }
+    ensures { λ r. ⌜ Sweeping (setting n (before points) (before heights) (before homes) (before reads) (before «read_heights») (before apart)) count (before leads) (x .0) r (before pairs) (after pairs) (before done) (after done) ⌝ }
+{
+    let mut changed = false;
+    for l in 0..count {
+        let y = linked(leads, l);
+        if x.0 <= y {
+            continue;
+        }
+        if !leads_on(n, x, TermNumber(y), homes, reads, apart, pairs, done) {
+            continue;
+        }
+        let more = follow(
+            n,
+            limit,
+            x,
+            TermNumber(y),
+            points,
+            heights,
+            class_first,
+            class_next,
+            slot_first,
+            slot_next,
+            homes,
+            reads,
+            read_heights,
+            apart,
+            levels,
+            from,
+            order,
+            starts,
+            entries,
+            pairs,
+            done,
+            notes,
+        );
+        changed = changed | more;
+        if changed & is_over(limit, notes) {
+            return true;
+        }
+    }
+    changed
+}
+
+// How many times as long a look at a home takes as one along the leads. Nothing relies on it.
+const DENSE: usize = 32;
+
+// A look at x with each lead before it, by homes or along all leads.
+fn sweep_lead(
+    n: usize,
+    limit: u32,
+    x: TermNumber,
+    count: usize,
+    leads: &[u16],
+    keys: &[u32],
+    lead_first: &[u16],
+    lead_next: &[u16],
+    hosts: &[u64],
+    points: &[u32],
+    heights: &[u64],
+    class_first: &[u16],
+    class_next: &[u16],
+    slot_first: &[u16],
+    slot_next: &[u16],
+    homes: &[u32],
+    reads: &[u32],
+    read_heights: &[u64],
+    apart: &[u8],
+    levels: &[u16],
+    from: &[u16],
+    order: &[u16],
+    starts: &[u32],
+    entries: &[u8],
+    pairs: &mut [u8],
+    done: &mut [u8],
+    notes: &mut Notes,
+) -> bool
+    requires { ⌜ Chained n (now points) (now heights) (now «class_first») (now «class_next») (now «slot_first») (now «slot_next») × Indexed n (now points) (now heights) (now apart) (now levels) (now from) (now order) (now starts) (now entries) ⌝ }
+    requires { ⌜ (let S = setting n (now points) (now heights) (now homes) (now reads) (now «read_heights») (now apart) in Ready S × Kept S (now pairs) (now done)) ⌝ }
+    requires { ⌜ (x .0 < n) × (Listing n count (now leads) × (LeadKeys n count (now homes) (now leads) (now keys) (now hosts) × Chains n classSlots (now keys) (now «lead_first») (now «lead_next»))) ⌝ }
+    ensures { λ r. ⌜ Sweeping (setting n (before points) (before heights) (before homes) (before reads) (before «read_heights») (before apart)) count (before leads) (x .0) r (before pairs) (after pairs) (before done) (after done) ⌝ }
+{
+    let k = x.0;
+    if count < DENSE * count_common(index(homes[k]) * n, pairs, hosts) {
+        return sweep_leads(
+            n,
+            limit,
+            x,
+            count,
+            leads,
+            points,
+            heights,
+            class_first,
+            class_next,
+            slot_first,
+            slot_next,
+            homes,
+            reads,
+            read_heights,
+            apart,
+            levels,
+            from,
+            order,
+            starts,
+            entries,
+            pairs,
+            done,
+            notes,
+        );
+    }
+    sweep_row(
+        n,
+        limit,
+        x,
+        keys,
+        lead_first,
+        lead_next,
+        hosts,
+        points,
+        heights,
+        class_first,
+        class_next,
+        slot_first,
+        slot_next,
+        homes,
+        reads,
+        read_heights,
+        apart,
+        levels,
+        from,
+        order,
+        starts,
+        entries,
+        pairs,
+        done,
+        notes,
+    )
+}
+
 // The home of each lead as its key, and the homes of leads as a mask.
 fn fill_keys(
     n: usize,
@@ -805,10 +973,12 @@ fn sweep_rows(
     let mut changed = false;
     for k in 0..count {
         let x = linked(leads, k);
-        let more = sweep_row(
+        let more = sweep_lead(
             n,
             limit,
             TermNumber(x),
+            count,
+            leads,
             keys,
             lead_first,
             lead_next,

@@ -269,3 +269,15 @@ pub fn rest(x: &[u64], y: &[u64], rest: &mut [u64])
         rest[w] = word & (word ^ mask_word(y, w));
     }
 }
+
+// How many numbers are in the mask and have their bit set in the row, of rows of 512 bits. Nothing relies on it.
+pub fn count_common(start: usize, table: &[u8], mask: &[u64]) -> usize
+    requires { ⌜ start + 1024 < 2 ^ 64 ⌝ }
+    ensures { λ r. ⌜ r ≤ 512 ⌝ }
+{
+    let mut count = 0;
+    for w in 0..8 {
+        count = count + (u64::count_ones(common(start, table, mask, 64 * w)) % 65) as usize;
+    }
+    count
+}

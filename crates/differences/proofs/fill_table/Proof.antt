@@ -3,8 +3,7 @@ use native.Mathlib.Omega.{arith}
 use denote.Ref.{now}
 use borrow.Author.Needs.{needs}
 use Rattle.points.specs.Homes.{points-unique}
-use Rattle.expansion.specs.Expand.{homes-own}
-use Rattle.differences.specs.Table.{base-uniform, home-columns, room-based, table-told}
+use Rattle.differences.specs.Table.{base-uniform, class-set, home-columns, room-based, table-told}
 use Rattle.differences.proofs.fill_table.Statement.{statement}
 use Rattle.differences.proofs.fill_table.Tie as tie
 
@@ -38,9 +37,10 @@ settle-requires c κs = let s = c .before .before .before .before .before .befor
 expand-requires : tie.Need-expand-requires
 expand-requires c κs = let s = c .before .before .before .before .before .before .before .before .before .before .before .before .before .before .before .before .before .before .before .before .before .before .before .before .before .before .before .before .before .before .before .before in
     let p = s .pre in (
-      p .0 .0 .reading .few,
+      (p .0 .0 .terms, p .1 .0 .homes-are),
       (
-        homes-own (p .1 .0 .homes-are),
+        class-set (s .args .n) (s .args .m) (now (s .args .classes)) (now (s .args .heights)) (now (s .args .homes)) (now (s .args .points)) (now (s .args .reads)) (now (s .args .read-heights)) (now (s .args .leads)) (now (s .args .left-classes)) (now (s .args .left-heights)) (now (s .args .right-classes)) (now (s .args .right-heights)) (now (s .args .apart))
+            (p .0 .0 .terms) (p .0 .0 .sides) (p .1 .0 .homes-are) (p .1 .0 .points-are) (p .1 .0 .leads-are) (c .before .before .before .before .before .before .before .before .mark-base .ensures) (c .before .before .before .settle .ensures),
         (
           home-columns (s .args .n) (s .args .m) (now (s .args .classes)) (now (s .args .heights)) (now (s .args .homes)) (now (s .args .points)) (now (s .args .reads)) (now (s .args .read-heights)) (now (s .args .leads)) (now (s .args .left-classes)) (now (s .args .left-heights)) (now (s .args .right-classes)) (now (s .args .right-heights)) (now (s .args .apart))
               (p .0 .0 .terms) (p .0 .0 .sides) (p .1 .0 .homes-are) (p .1 .0 .points-are) (p .1 .0 .leads-are) (c .before .before .before .before .before .before .before .before .mark-base .ensures) (c .before .before .before .settle .ensures),

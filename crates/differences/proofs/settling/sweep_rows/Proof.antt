@@ -20,20 +20,20 @@ loop-holds c = (omega arith, sweeping-all-start ((c .before .before .before .bef
 linked-requires : tie.Need-linked-requires Inv-loop μ-loop
 linked-requires c κs = let s = (c .before .before .before .before .before .before .before .before .before .before .before .before .before .before .before .before .before .before .before .before .before .before .before .before) in omega (arith, s .pre .1 .1 .0 .long, c .loop-test .taken)
 
-sweep-row-requires : tie.Need-sweep-row-requires Inv-loop μ-loop
-sweep-row-requires c κs = let s = (c .before .before .before .before .before .before .before .before .before .before .before .before .before .before .before .before .before .before .before .before .before .before .before .before .before .before .before .before) in (s .pre .0, ((s .pre .1 .0 .0, (c .before .before .before .before .before) .loop .inv .1 .step .kept), (omega (arith, (c .before .before .before) .linked .ensures, s .pre .1 .1 .0 .below ((c .before .before .before .before .before) .loop .k) ((c .before .before .before .before) .loop-test .taken)), s .pre .1 .1 .1 .1)))
+sweep-lead-requires : tie.Need-sweep-lead-requires Inv-loop μ-loop
+sweep-lead-requires c κs = let s = (c .before .before .before .before .before .before .before .before .before .before .before .before .before .before .before .before .before .before .before .before .before .before .before .before .before .before .before .before) in (s .pre .0, ((s .pre .1 .0 .0, (c .before .before .before .before .before) .loop .inv .1 .step .kept), (omega (arith, (c .before .before .before) .linked .ensures, s .pre .1 .1 .0 .below ((c .before .before .before .before .before) .loop .k) ((c .before .before .before .before) .loop-test .taken)), s .pre .1 .1)))
 
 is-over-requires : tie.Need-is-over-requires Inv-loop μ-loop
 is-over-requires c κs = search needs
 
 same-length : tie.Need-same-length Inv-loop μ-loop
-same-length c = (c .before .before .before .before .before .before .before) .sweep-row .ensures .step .grows .long ∙ (c .before .before .before .before .before .before .before .before .before .before .before .before .before) .loop .inv .1 .step .grows .long
+same-length c = (c .before .before .before .before .before .before .before) .sweep-lead .ensures .step .grows .long ∙ (c .before .before .before .before .before .before .before .before .before .before .before .before .before) .loop .inv .1 .step .grows .long
 
 same-length-2 : tie.Need-same-length-2 Inv-loop μ-loop
-same-length-2 c = (c .before .before .before .before .before .before .before) .sweep-row .ensures .step .long ∙ (c .before .before .before .before .before .before .before .before .before .before .before .before .before) .loop .inv .1 .step .long
+same-length-2 c = (c .before .before .before .before .before .before .before) .sweep-lead .ensures .step .long ∙ (c .before .before .before .before .before .before .before .before .before .before .before .before .before) .loop .inv .1 .step .long
 
 returns : tie.Need-returns Inv-loop μ-loop
-returns c = let s = (c .before .before .before .before .before .before .before .before .before .before .before .before .before .before .before .before .before .before .before .before .before .before .before .before .before .before .before .before .before .before .before .before .before .before .before .before) in sweeping-all-left (and-true _ _ (c .if1 .taken) .0) (sweeping-all-more (s .pre .1 .0 .0) (s .pre .1 .1 .0) (s .pre .1 .1 .1 .0) ((c .before .before .before .before .before .before .before .before .before .before .before .before .before) .loop .inv .1) (rw ((c .before .before .before .before .before .before .before .before .before .before .before) .linked .ensures) at ((c .before .before .before .before .before .before .before) .sweep-row .ensures)))
+returns c = let s = (c .before .before .before .before .before .before .before .before .before .before .before .before .before .before .before .before .before .before .before .before .before .before .before .before .before .before .before .before .before .before .before .before .before .before .before .before) in sweeping-all-left (and-true _ _ (c .if1 .taken) .0) (sweeping-all-more ((c .before .before .before .before .before .before .before .before .before .before .before .before .before) .loop .inv .1) (rw ((c .before .before .before .before .before .before .before .before .before .before .before) .linked .ensures) at ((c .before .before .before .before .before .before .before) .sweep-lead .ensures)))
 
 add-k : tie.Need-add-k Inv-loop μ-loop
 add-k c = let s = (c .before .before .before .before .before .before .before .before .before .before .before .before .before .before .before .before .before .before .before .before .before .before .before .before .before .before .before .before .before .before .before .before .before .before .before .before) in omega (arith, (c .before .before .before .before .before .before .before .before .before .before .before .before) .loop-test .taken, s .pre .1 .1 .0 .few)
@@ -42,7 +42,7 @@ loop-less : tie.Need-loop-less Inv-loop μ-loop
 loop-less c = omega (arith, (c .before .before .before .before .before .before .before .before .before .before .before .before) .loop-test .taken)
 
 loop-again : tie.Need-loop-again Inv-loop μ-loop
-loop-again c = let s = (c .before .before .before .before .before .before .before .before .before .before .before .before .before .before .before .before .before .before .before .before .before .before .before .before .before .before .before .before .before .before .before .before .before .before .before .before) in (omega (arith, (c .before .before .before .before .before .before .before .before .before .before .before .before) .loop-test .taken), sweeping-all-more (s .pre .1 .0 .0) (s .pre .1 .1 .0) (s .pre .1 .1 .1 .0) ((c .before .before .before .before .before .before .before .before .before .before .before .before .before) .loop .inv .1) (rw ((c .before .before .before .before .before .before .before .before .before .before .before) .linked .ensures) at ((c .before .before .before .before .before .before .before) .sweep-row .ensures)))
+loop-again c = let s = (c .before .before .before .before .before .before .before .before .before .before .before .before .before .before .before .before .before .before .before .before .before .before .before .before .before .before .before .before .before .before .before .before .before .before .before .before) in (omega (arith, (c .before .before .before .before .before .before .before .before .before .before .before .before) .loop-test .taken), sweeping-all-more ((c .before .before .before .before .before .before .before .before .before .before .before .before .before) .loop .inv .1) (rw ((c .before .before .before .before .before .before .before .before .before .before .before) .linked .ensures) at ((c .before .before .before .before .before .before .before) .sweep-lead .ensures)))
 
 same-length-3 : tie.Need-same-length-3 Inv-loop μ-loop
 same-length-3 c = (c .before) .loop .inv .1 .step .grows .long
@@ -61,7 +61,7 @@ sweep-rows-spec =
     μ-loop
     loop-holds
     linked-requires
-    sweep-row-requires
+    sweep-lead-requires
     is-over-requires
     same-length
     same-length-2
