@@ -69,6 +69,17 @@ fn chase(
     true
 }
 
+// Joins dereferences of one address as the notes lead to them; tells whether no two clash.
+fn propagate(terms: &[TermRow], parents: &mut [u32], offsets: &mut [i64]) -> bool
+    requires { ⌜ AcceptedTerms (length (now terms)) (termAt (now terms)) × Labels (length (now terms)) (now parents) (now offsets) ⌝ }
+    ensures { λ r. ⌜ Chased (length (before terms)) (termAt (before terms)) (before parents) (before offsets) (after parents) (after offsets) r ⌝ }
+{
+    let mut notes = [0u16; 8192];
+    let mut shifts = [0u64; MOST];
+    list_uses(terms, parents, offsets, &mut notes);
+    chase(terms, parents, offsets, &mut notes, &mut shifts)
+}
+
 // Joins what the last look finds until it finds nothing; or two of one class that differ.
 fn settle(terms: &[TermRow], parents: &mut [u32], offsets: &mut [i64]) -> bool
     requires { ⌜ AcceptedTerms (length (now terms)) (termAt (now terms)) × Labels (length (now terms)) (now parents) (now offsets) ⌝ }
@@ -93,10 +104,7 @@ pub fn close(terms: &[TermRow], parents: &mut [u32], offsets: &mut [i64]) -> boo
     requires { ⌜ AcceptedTerms (length (now terms)) (termAt (now terms)) × Labels (length (now terms)) (now parents) (now offsets) ⌝ }
     ensures { λ r. ⌜ Closing (length (before terms)) (termAt (before terms)) (before parents) (before offsets) (after parents) (after offsets) r ⌝ }
 {
-    let mut notes = [0u16; 8192];
-    let mut shifts = [0u64; MOST];
-    list_uses(terms, parents, offsets, &mut notes);
-    if !chase(terms, parents, offsets, &mut notes, &mut shifts) {
+    if !propagate(terms, parents, offsets) {
         return false;
     }
     settle(terms, parents, offsets)

@@ -13,8 +13,9 @@ use unionfind::Joining;
 use unionfind::Root;
 use unionfind::find;
 use unionfind::join;
-use uselists::first_slot;
+use uselists::address_key;
 use uselists::join_uses;
+use uselists::probe;
 use uselists::set_slot;
 use uselists::slot;
 ghost use Prim.Native.Nat.{_<_};
@@ -106,7 +107,7 @@ fn lookup(
     parents: &mut [u32],
     offsets: &mut [i64],
     notes: &mut [u16],
-    start: usize,
+    key: u64,
     x: TermNumber,
     at: Root,
 ) -> usize
@@ -114,7 +115,7 @@ fn lookup(
     ensures { λ _. ⌜ Unchanged (before parents) (before offsets) (after parents) (after offsets) ⌝ }
 {
     for i in 0..TRIES {
-        let s = start % 4096 + i;
+        let s = probe(key, i);
         let found = slot(notes, s);
         if found == 0 {
             set_slot(notes, s, x.0);
@@ -174,8 +175,8 @@ pub fn step(
         return true;
     }
     let at = address(parents, offsets, r);
-    let start = first_slot(notes, shifts, at);
-    let found = lookup(terms, parents, offsets, notes, start, x, at);
+    let key = address_key(notes, shifts, at);
+    let found = lookup(terms, parents, offsets, notes, key, x, at);
     if found == 0 {
         return true;
     }

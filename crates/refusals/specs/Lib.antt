@@ -2,4 +2,5 @@
 pub mod FirstFault
 pub mod Fields
 pub mod Terms
+pub mod Listed
 pub mod Parts

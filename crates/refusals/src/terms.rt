@@ -1,6 +1,8 @@
 // The refusals of term records: 9, 4 and 5.
 use crate::fields::in_range;
 use offsets::is_same;
+use pairbits::set_bit;
+use pairbits::test_bit;
 use tables::TermRow;
 use tables::atoms::is_atom;
 use tables::atoms::same_atom;
@@ -11,10 +13,11 @@ use types::DEREF;
 use types::Refusal;
 use types::TermNumber;
 use types::TermRecord;
+use types::VARIABLE;
 use types::refuse;
 ghost use mathlib.Core.Path.{_≡_};
 ghost use lib.ListN.{length};
-ghost use Rattle.lists.specs.Lent.{before};
+ghost use Rattle.lists.specs.Lent.{before, after};
 ghost use Rattle.lists.specs.Search.{isSome};
 ghost use Rattle.tables.specs.Records.{termOf};
 ghost use Rattle.tables.specs.Refusals.{firstFault};
@@ -23,6 +26,7 @@ ghost use Rattle.tables.specs.TermTable.{termsFault};
 ghost use Rattle.tables.specs.TableFaults.{acceptance};
 ghost use Rattle.refusals.specs.FirstFault.{judged, placeOr};
 ghost use Rattle.refusals.specs.Terms.{ownFault, ownFaultAt, repeatFaultAt};
+ghost use Rattle.refusals.specs.Listed.{atomBit, Noted};
 
 // Whether a record stands for a term.
 fn is_term(r: TermRecord) -> bool
@@ -61,13 +65,47 @@ fn first_own_fault(terms: &[TermRow]) -> Acceptance
     Acceptance::Accepted
 }
 
-// The place of the first term record that lists an atom again; the number of terms where none does.
+// A bit for each atom.
+type Listed = [u8; 16384];
+
+// The bit of an atom: those of variables, then those of auxiliaries.
+fn atom_bit(r: TermRecord) -> usize
+    ensures { λ b. ⌜ b ≡ atomBit r ⌝ }
+{
+    let number = (r.number % ATOMS) as usize;
+    if r.kind == VARIABLE {
+        return number;
+    }
+    number + 65536
+}
+
+// Sets the bit of a record's atom, if it is of one; tells whether the bit was 0, so that no record before lists the atom.
+fn note_atom(listed: &mut Listed, r: TermRecord) -> bool
+    ensures { λ fresh. ⌜ Noted (before listed) (after listed) r fresh ⌝ }
+{
+    if !is_atom(r.kind) {
+        return true;
+    }
+    let bit = atom_bit(r);
+    if test_bit(listed, bit) {
+        return false;
+    }
+    set_bit(listed, bit);
+    true
+}
+
+// The place of the first term record that lists an atom again; the number of terms where none does. Only a record whose atom's bit is
+// set already is compared with those before it.
 fn first_repeat(terms: &[TermRow]) -> usize
     ensures { λ r. ⌜ r ≡ placeOr (length (before terms)) (firstFault (repeatFaultAt (termAt (before terms))) 0 (length (before terms))) ⌝ }
 {
+    let mut listed = [0u8; 16384];
     let mut place = terms.len();
     'scan: for i in 0..terms.len() {
         let term = term_at(terms, TermNumber(i));
+        if note_atom(&mut listed, term) {
+            continue;
+        }
         for j in 0..i {
             if same_atom(term, term_at(terms, TermNumber(j))) {
                 place = i;

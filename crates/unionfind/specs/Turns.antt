@@ -174,6 +174,30 @@ module _ {p0 : List ℕ} {o0 : List ℤ} {p : List ℕ} {o : List ℤ} {t at : �
       offset = rw e total;
     }
 
+  -- under a root
+  module _ (u : getD p (getD p at 0) 0 ≡ getD p at 0) where
+    leads : Follows p o (flat p0 o0)
+    leads = rw (F .same) at (flat-follows (F .links))
+
+    below-root : s +ℤ getD o at (pos 0) ≡ flat p0 o0 .position t
+    below-root =
+        let P = flat p0 o0 in
+        let up = getD p at 0 in
+        let d = getD o at (pos 0) in
+        omega (linear, F .offset, leads .link-position at, leads .root-position up u, value (‹ s › ⊕ ‹ P .position at ›), value (‹ P .position up › ⊕ ‹ d ›), value (‹ s › ⊕ ‹ d ›), value (# 0))
+
+    pub below-root-within : Near (length p0) (flat p0 o0) → t < length p0 → Within far (s +ℤ getD o at (pos 0))
+    below-root-within N h = rw below-root (N .near h)
+
+    pub below-root-found : (r : Root) → r .term .0 ≡ getD p at 0 → r .offset ≡ s +ℤ getD o at (pos 0) → Found p0 o0 p o t r
+    below-root-found r er es = record {
+      links = F .links;
+      same = F .same;
+      long = F .long;
+      root = er ∙ sym (F .class ∙ leads .link-block at ∙ leads .root-block (getD p at 0) u);
+      offset = es ∙ below-root;
+    }
+
   pub finding-found : (r : Root) → getD p at 0 ≡ at → r .term .0 ≡ at → r .offset ≡ s → Found p0 o0 p o t r
   finding-found r e er es =
       let R = rw (F .same) at (flat-follows (F .links)) in

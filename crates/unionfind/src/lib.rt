@@ -56,7 +56,7 @@ fn halve(parents: &mut [u32], offsets: &mut [i64], t: usize) -> usize
     top as usize
 }
 
-// The root of t's class, and the offset of t from it. Halves the path on the way.
+// The root of t's class, and the offset of t from it. Halves a path of several links on the way.
 pub fn find(parents: &mut [u32], offsets: &mut [i64], t: TermNumber) -> Root
     requires { ⌜ Links (now parents) (now offsets) × Near (length (now parents)) (flat (now parents) (now offsets)) ⌝ }
     requires { ⌜ t .0 < length (now parents) ⌝ }
@@ -65,10 +65,17 @@ pub fn find(parents: &mut [u32], offsets: &mut [i64], t: TermNumber) -> Root
     let mut at = t.0;
     let mut offset: i64 = 0;
     loop {
-        if parents[at] as usize == at {
+        let up = parents[at] as usize;
+        if up == at {
             return Root {
                 term: TermNumber(at),
                 offset,
+            };
+        }
+        if parents[up] as usize == up {
+            return Root {
+                term: TermNumber(up),
+                offset: sum(offset, offsets[at]),
             };
         }
         let top = halve(parents, offsets, at);

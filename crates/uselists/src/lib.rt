@@ -95,19 +95,48 @@ fn name(notes: &[u16], class: usize) -> usize {
     class % MOST + 1
 }
 
-// A slot for a name and a number, multiplied so that near ones lie apart.
-fn slot_of(name: usize, key: u64) -> usize {
-    let high = key / 4294967296 % 4294967296;
-    let low = (key % 4294967296 + high * 40503) % 4294967296;
-    let mixed = (name % 1024) as u64 * 2654435761 + low * 2246822519;
-    (mixed / 1048576 % 4096) as usize
+// One more than the highest place in a class that a key tells.
+const PLACES: u64 = 0x40_0000_0000_0000;
+
+// A key of an address for the table: the name of its class, and its place in it.
+pub fn address_key(notes: &[u16], shifts: &[u64], at: Root) -> u64 {
+    let class = at.term.0;
+    let place = wrapping_sub_u64(bits(at.offset), shift(shifts, class));
+    (name(notes, class) % 1024) as u64 * PLACES + place % PLACES
 }
 
-// The slot where the search for an address starts.
-pub fn first_slot(notes: &[u16], shifts: &[u64], at: Root) -> usize {
-    let class = at.term.0;
-    let key = wrapping_sub_u64(bits(at.offset), shift(shifts, class));
-    slot_of(name(notes, class), key)
+// Numbers of 32 bits.
+const WORD: u64 = 0x1_0000_0000;
+
+// Two hashes of a key: its halves multiplied so that near keys lie apart.
+fn first_hash(key: u64) -> u64
+    ensures { λ r. ⌜ r < 2 ^ 32 ⌝ }
+{
+    (key % WORD * 2246822519 % WORD + key / WORD * 2654435761 % WORD) % WORD
+}
+
+fn second_hash(key: u64) -> u64
+    ensures { λ r. ⌜ r < 2 ^ 32 ⌝ }
+{
+    (key % WORD * 3266489917 % WORD + key / WORD * 668265263 % WORD) % WORD
+}
+
+// Each bit hangs on all lower bits of x, and on some higher.
+fn mix(x: u64) -> u64
+    ensures { λ r. ⌜ r < 2 ^ 32 ⌝ }
+{
+    (x ^ (x / 32768)) % WORD * 2246822519 % WORD
+}
+
+// Slot i of the probe sequence of a key. The first slot is found quickly. The others hang on all bits of the key, so that keys that
+// meet in one slot part in the next.
+pub fn probe(key: u64, i: usize) -> usize {
+    let first = first_hash(key);
+    if i == 0 {
+        return (first / 1048576) as usize;
+    }
+    let mixed = mix(mix(second_hash(key) + (i % MOST) as u64) + first);
+    (mixed / 1048576) as usize
 }
 
 // Puts x on the stack, unless it is there.

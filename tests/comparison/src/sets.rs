@@ -296,8 +296,8 @@ pub fn listed_twice_in_a_cycle(size: usize) -> Set {
     set
 }
 
-/// Two equal atoms, each read at the same offsets, which all meet in one slot of the closure's table of addresses: multiples of the
-/// inverse, modulo 2^32, of the factor that it multiplies by.
+/// Two equal atoms, each read at the same offsets, whose searches in the closure's table of addresses all start at one slot, or another
+/// for negative ones: multiples of the inverse, modulo 2^32, of the factor that it multiplies by.
 pub fn one_slot(size: usize) -> Set {
     let mut set = Set::default();
     set.term(2, 0, 0);
