@@ -1,5 +1,5 @@
-// One bit of a byte table: bit i is bit i % 8, lowest first, of byte i / 8. Public for the crates `distances` and
-// `marking`.
+// One bit of a byte table: bit i is bit i % 8, lowest first, of byte i / 8. Public for the crates `words`,
+// `distances` and `marking`.
 ghost use mathlib.Core.Path.{_≡_};
 ghost use Prim.Native.Nat.{_/_, _<_};
 ghost use lib.ListN.{length, getD};
