@@ -250,15 +250,15 @@ module _ (n : ℕ) (homes : List ℕ) where
 
     -- the row of home i: the terms of its class by a mask, then those whose homes are in another
     module _ (classes : List ℕ) (i : ℕ) (hi : i < n) (own : home homes i ≡ i) {reach : List ℕ} (R : Reach n classes homes i reach) where
-      pub class-expanded : {old new : List ℕ} → ClassSet n classes homes old → Adds n (MaskPair reach i) old new → ExpandedIn n homes (ReachRow reach i) old new
+      pub class-expanded : {old new : List ℕ} → ClassSet n classes homes old → Adds n (MaskPair reach i i) old new → ExpandedIn n homes (ReachRow reach i) old new
       class-expanded {old} C A =
-          adds-as n (MaskPair reach i) (λ x y. ReachRow reach i x y × HomesSet n homes old x y) A
+          adds-as n (MaskPair reach i i) (λ x y. ReachRow reach i x y × HomesSet n homes old x y) A
           (λ x y hx hy (e, (m, d)). let r = R .only y m hy in ((e, m), rw (e, own) (C .set i y hi hy own (sym (r .0)) (r .1))))
           (λ x y hx hy ((e, m), w). (e, (m, λ s. R .only y m hy .1 (rw s own))))
 
       pub class-covered :
           {hosts others old new : List ℕ} → n ≤ 512 → ((t : ℕ) → t < n → class classes (home homes t) ≡ class classes t) → Hosts n homes hosts → Rest hosts reach 8 others →
-          Adds n (MaskPair reach i) old new → Covered n homes others i new
+          Adds n (MaskPair reach i i) old new → Covered n homes others i new
       class-covered {hosts} {others} {old} {new} few same H T A = record { host = λ t h m. go t h m (inMask reach (home homes t)) refl }
         where
           go : (t : ℕ) → t < n → home homes t ≢ t → (b : Bool) → inMask reach (home homes t) ≡ b → (inMask others (home homes t) ≡ true) ⊎ (isSet new (i * n + t) ≡ true)

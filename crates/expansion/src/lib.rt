@@ -120,7 +120,7 @@ fn expand_row(
     own_homes(n, i.0, homes, first, next, &mut same);
     rest(own, &same, &mut reach);
     rest(hosts, &reach, &mut others);
-    mark_masked(n, i, &reach, table);
+    mark_masked(n, i, i.0, &reach, table);
     expand_others(n, i, homes, &others, first, next, table);
 }
 

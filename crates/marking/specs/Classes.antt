@@ -34,42 +34,9 @@ classesDiffer n apart a p b q = isSet apart (a * n + b) || otherHeight a p b q
 abbrev pub placesDiffer : ℕ → List ℕ → List ℕ → List ℕ → ℕ → ℕ → Bool
 placesDiffer n apart classes heights i j = classesDiffer n apart (class classes i) (height heights i) (class classes j) (height heights j)
 
--- j is a home and differs by its class from the place (a, p)
-unfoldable pub differsFrom : ℕ → List ℕ → List ℕ → List ℕ → ℕ → ℕ → ℕ → Bool
-differsFrom n apart points heights a p j = ltb (class points j) n && classesDiffer n apart a p (class points j) (height heights j)
-
--- where it is none, whatever stands in place of its class tells the same
-pub differs-told :
-    (n : ℕ) (apart points heights : List ℕ) (a p j c : ℕ) → (class points j < n → c ≡ class points j) →
-    (ltb (class points j) n && classesDiffer n apart a p c (height heights j)) ≡ differsFrom n apart points heights a p j
-unfolding differsFrom
-differs-told n apart points heights a p j c f = go (ltb (class points j) n) refl
-  where
-    b : ℕ
-    b = class points j
-
-    go : (t : Bool) → ltb b n ≡ t → (t && classesDiffer n apart a p c (height heights j)) ≡ (t && classesDiffer n apart a p b (height heights j))
-    go true e = rw (f (ltb-true b n e))
-    go false e = refl
-
 -- two homes by their classes; the class of what is no home is n
 abbrev pub PointsDiffer : ℕ → List ℕ → List ℕ → List ℕ → ℕ → ℕ → Type 0
 PointsDiffer n apart points heights i j = (class points i < n) × ((class points j < n) × (placesDiffer n apart points heights i j ≡ true))
-
--- the pair (i, j), where they differ
-abbrev pub ClassPair : ℕ → List ℕ → List ℕ → List ℕ → ℕ → ℕ → ℕ → ℕ → Type 0
-ClassPair n apart points heights i j x y = PointsDiffer n apart points heights i j × One i j x y
-
--- the bit of a pair, written if the two differ
-pub class-written :
-    (n : ℕ) (apart points heights : List ℕ) (i j : ℕ) (t : Bool) {old new : List ℕ} → class points i < n →
-    t ≡ differsFrom n apart points heights (class points i) (height heights i) j →
-    Adds n (OneIf t i j) old new → Adds n (ClassPair n apart points heights i j) old new
-unfolding differsFrom
-class-written n apart points heights i j t h e a =
-    adds-as n (OneIf t i j) (ClassPair n apart points heights i j) a
-    (λ x y hx hy d. let r = and-true (ltb (class points j) n) _ (sym e ∙ d .0) in ((h, (ltb-true _ _ (r .0), r .1)), d .1))
-    (λ x y hx hy d. (e ∙ both-true _ _ (lt-ltb _ _ (d .0 .1 .0)) (d .0 .1 .1), d .1))
 
 -- no class is apart from a
 pub record NoneApart (n : ℕ) (apart : List ℕ) (a : ℕ) : Type 0 where

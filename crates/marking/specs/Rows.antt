@@ -15,23 +15,23 @@ use Rattle.pairbits.specs.Bits.{isSet}
 use Rattle.points.specs.Places.{class, height}
 use Rattle.points.specs.Homes.{Unique}
 use Rattle.words.specs.Words.{inMask, isOne, one-past, Ored, Put, Without}
-use Rattle.marking.specs.Marks.{Adds, Marking, PairOf, Room, Upto, adds-as, marking-done, pair-below, zeros, zero-cells}
-use Rattle.marking.specs.Classes.{ClassPair, NoneApart, PointsDiffer, classesDiffer, other-parts, otherHeight, parts-other}
+use Rattle.marking.specs.Marks.{Adds, Marking, PairOf, Room, Upto, adds-already, adds-as, marking-done, pair-below, zeros, zero-cells}
+use Rattle.marking.specs.Classes.{NoneApart, PointsDiffer, classesDiffer, other-parts, otherHeight, parts-other}
 
 -- all numbers of a mask are below n
 pub record Below (n : ℕ) (mask : List ℕ) : Type 0 where
   pub below : (v : ℕ) → inMask mask v ≡ true → v < n
 
--- the pairs of i with the numbers of a mask, but for itself; with those of word w
-abbrev pub MaskPair : List ℕ → ℕ → ℕ → ℕ → Type 0
-MaskPair mask i x y = (x ≡ i) × ((inMask mask y ≡ true) × (y ≢ i))
+-- the pairs of i with the numbers of a mask but j; with those of word w
+abbrev pub MaskPair : List ℕ → ℕ → ℕ → ℕ → ℕ → Type 0
+MaskPair mask i j x y = (x ≡ i) × ((inMask mask y ≡ true) × (y ≢ j))
 
-abbrev pub WordPair : List ℕ → ℕ → ℕ → ℕ → ℕ → Type 0
-WordPair mask i w x y = (y / 64 ≡ w) × MaskPair mask i x y
+abbrev pub WordPair : List ℕ → ℕ → ℕ → ℕ → ℕ → ℕ → Type 0
+WordPair mask i j w x y = (y / 64 ≡ w) × MaskPair mask i j x y
 
 -- one word, set at its place in the row of i
-pub word-adds : (n i w : ℕ) (mask : List ℕ) {r : ℕ} {old new : List ℕ} → i < n → Room n old → Below n mask → Without mask w i r → Ored old (i * n + 64 * w) 64 r new → Adds n (WordPair mask i w) old new
-word-adds n i w mask {r} {old} {new} hi room B W O = record {
+pub word-adds : (n i j w : ℕ) (mask : List ℕ) {r : ℕ} {old new : List ℕ} → i < n → Room n old → Below n mask → Without mask w j r → Ored old (i * n + 64 * w) 64 r new → Adds n (WordPair mask i j w) old new
+word-adds n i j w mask {r} {old} {new} hi room B W O = record {
   long = O .long;
   bytes = O .bytes;
   kept = O .kept;
@@ -39,23 +39,22 @@ word-adds n i w mask {r} {old} {new} hi room B W O = record {
   only = λ k e. ⊎-elim inl (λ (b, hb, s, f). inr (told k b hb s f)) (O .only k e);
 }
   where
-    set : (y : ℕ) → y < n → y / 64 ≡ w → inMask mask y ≡ true → y ≢ i → isSet new (i * n + y) ≡ true
+    set : (y : ℕ) → y < n → y / 64 ≡ w → inMask mask y ≡ true → y ≢ j → isSet new (i * n + y) ≡ true
     set y hy q m d =
         let z : i * n + 64 * w + y % 64 ≡ i * n + y = omega arith in
-        rw z at (O .added (y % 64) (omega arith) (W .bits y q ∙ rw (m, ne-eqb y i d)) (rw z (pair-below old room hi hy)))
+        rw z at (O .added (y % 64) (omega arith) (W .bits y q ∙ rw (m, ne-eqb y j d)) (rw z (pair-below old room hi hy)))
 
-    told : (k b : ℕ) → b < 64 → k ≡ i * n + 64 * w + b → isOne r b ≡ true → PairOf n (WordPair mask i w) k
+    told : (k b : ℕ) → b < 64 → k ≡ i * n + 64 * w + b → isOne r b ≡ true → PairOf n (WordPair mask i j w) k
     told k b hb s f =
-        let v : ℕ = 64 * w + b in
         let q : (64 * w + b) / 64 ≡ w = omega arith in
         let m : (64 * w + b) % 64 ≡ b = omega arith in
         let t = and-true (inMask mask (64 * w + b)) _ (sym (W .bits (64 * w + b) q) ∙ rw m f) in
-        (i, 64 * w + b, hi, B .below (64 * w + b) (t .0), omega arith, (q, (refl, (t .0, eqb-false (64 * w + b) i (not-true _ (t .1))))))
+        (i, 64 * w + b, hi, B .below (64 * w + b) (t .0), omega arith, (q, (refl, (t .0, eqb-false (64 * w + b) j (not-true _ (t .1))))))
 
 -- all words of the row
-pub row-masked : (n i : ℕ) (mask : List ℕ) {m w : ℕ} {old new : List ℕ} → n ≤ 64 * m → m ≤ w → Marking n m w (WordPair mask i) old new → Adds n (MaskPair mask i) old new
-row-masked n i mask {m} h l M =
-    adds-as n (Upto m (WordPair mask i)) (MaskPair mask i) (marking-done l M)
+pub row-masked : (n i j : ℕ) (mask : List ℕ) {m w : ℕ} {old new : List ℕ} → n ≤ 64 * m → m ≤ w → Marking n m w (WordPair mask i j) old new → Adds n (MaskPair mask i j) old new
+row-masked n i j mask {m} h l M =
+    adds-as n (Upto m (WordPair mask i j)) (MaskPair mask i j) (marking-done l M)
     (λ x y hx hy (w, hw, (q, d)). d)
     (λ x y hx hy d. (y / 64, omega arith, (refl, d)))
 
@@ -75,7 +74,7 @@ pub record Gathering (n : ℕ) (points : List ℕ) (a t size : ℕ) (mask : List
   pub holds : (v : ℕ) → v < t → class points v ≡ a → inMask mask v ≡ true
   pub only : (v : ℕ) → inMask mask v ≡ true → (v < n) × (class points v ≡ a)
 
-no-numbers : (size v : ℕ) → inMask (zeros size) v ≡ false
+pub no-numbers : (size v : ℕ) → inMask (zeros size) v ≡ false
 unfolding inMask
 no-numbers size v = rw (zero-cells size (v / 64)) (one-past 0 0 (v % 64) (omega arith) (omega arith))
 
@@ -113,43 +112,37 @@ module _ {n : ℕ} {points : List ℕ} {a : ℕ} where
 abbrev pub ClassRows : ℕ → List ℕ → List ℕ → List ℕ → ℕ → ℕ → ℕ → Type 0
 ClassRows n apart points heights a x y = (class points x ≡ a) × PointsDiffer n apart points heights x y
 
--- the row of i, if it is in class a
+-- the row of i, if it is in class a: its pairs with the homes of a mask but itself
 abbrev pub OwnRow : List ℕ → List ℕ → ℕ → ℕ → ℕ → ℕ → Type 0
-OwnRow points mask a i x y = (class points i ≡ a) × MaskPair mask i x y
+OwnRow points mask a i x y = (class points i ≡ a) × MaskPair mask i i x y
 
-abbrev pub ApartRow : ℕ → List ℕ → List ℕ → List ℕ → ℕ → ℕ → ℕ → ℕ → Type 0
-ApartRow n apart points heights a i x y = (class points i ≡ a) × Upto n (ClassPair n apart points heights i) x y
-
-module _ (n : ℕ) (apart points heights : List ℕ) (a : ℕ) where
-  -- where no class is apart from a, only the homes of a differ from each other, and no two of them are at one height
-  pub own-class :
-      (mask : List ℕ) {old new : List ℕ} → a < n → Unique n points heights → NoneApart n apart a → OwnMask n points a mask →
-      Adds n (Upto n (OwnRow points mask a)) old new → Adds n (ClassRows n apart points heights a) old new
+module _ (n : ℕ) (apart points heights : List ℕ) (a : ℕ) (mask : List ℕ) (M : OwnMask n points a mask) where
+  -- the homes of a differ from each other: no two of them are at one height
+  pub own-differs : a < n → Unique n points heights → (x y : ℕ) → x < n → y < n → Upto n (OwnRow points mask a) x y → ClassRows n apart points heights a x y
   unfolding classesDiffer
-  own-class mask h U N M A =
-      adds-as n (Upto n (OwnRow points mask a)) (ClassRows n apart points heights a) A
-      (λ x y hx hy (i, hi, (e, (s, (m, d)))). differ x y hx hy (rw s e) m (λ t. d (t ∙ s)))
-      (λ x y hx hy (e, (l, (g, o))). (x, hx, (e, (refl, other x y hy e g o))))
-    where
-      differ : (x y : ℕ) → x < n → y < n → class points x ≡ a → inMask mask y ≡ true → y ≢ x → ClassRows n apart points heights a x y
-      differ x y hx hy e m d =
-          let c = M .only y m .1 in
-          let l : class points x < n = rw e h in
-          let s = e ∙ sym c in
-          (e, (l, (rw c h, or-second (isSet apart (class points x * n + class points y)) _ (parts-other (class points x) (height heights x) (class points y) (height heights y) s (λ t. d (sym (U .same x y hx hy l s t)))))))
+  own-differs h U x y hx hy (i, hi, (q, (s, (m, d)))) =
+      let e : class points x ≡ a = rw s q in
+      let c = M .only y m .1 in
+      let l : class points x < n = rw e h in
+      let r = e ∙ sym c in
+      (e, (l, (rw c h, or-second (isSet apart (class points x * n + class points y)) _ (parts-other (class points x) (height heights x) (class points y) (height heights y) r (λ t. d (sym (U .same x y hx hy l r t) ∙ s))))))
 
-      other : (x y : ℕ) → y < n → class points x ≡ a → class points y < n → (isSet apart (class points x * n + class points y) || otherHeight (class points x) (height heights x) (class points y) (height heights y)) ≡ true → (inMask mask y ≡ true) × (y ≢ x)
-      other x y hy e g o =
-          ⊎-elim
-          (λ t. false-true (rw e (N .none (class points y) g)) t)
-          (λ t. let r = other-parts (class points x) (height heights x) (class points y) (height heights y) t in (M .holds y hy (sym (r .0) ∙ e), λ s. r .1 (rw s)))
-          (or-cases (isSet apart (class points x * n + class points y)) _ o)
+  pub other-own : (x y : ℕ) → x < n → y < n → class points x ≡ a → otherHeight (class points x) (height heights x) (class points y) (height heights y) ≡ true → Upto n (OwnRow points mask a) x y
+  other-own x y hx hy e o =
+      let r = other-parts (class points x) (height heights x) (class points y) (height heights y) o in
+      (x, hx, (e, (refl, (M .holds y hy (sym (r .0) ∙ e), λ s. r .1 (rw s)))))
 
-  pub apart-class : {old new : List ℕ} → Adds n (Upto n (ApartRow n apart points heights a)) old new → Adds n (ClassRows n apart points heights a) old new
-  apart-class A =
-      adds-as n (Upto n (ApartRow n apart points heights a)) (ClassRows n apart points heights a) A
-      (λ x y hx hy (i, hi, (e, (j, hj, (d, o)))). rw (o .0, o .1) (e, d))
-      (λ x y hx hy (e, d). (x, hx, (e, (y, hy, (d, (refl, refl))))))
+  -- where no class is apart from a, no others differ from them
+  pub own-class : {old new : List ℕ} → a < n → Unique n points heights → NoneApart n apart a → Adds n (Upto n (OwnRow points mask a)) old new → Adds n (ClassRows n apart points heights a) old new
+  unfolding classesDiffer
+  own-class h U N A =
+      adds-as n (Upto n (OwnRow points mask a)) (ClassRows n apart points heights a) A (own-differs h U)
+      (λ x y hx hy (e, (l, (g, o))). ⊎-elim (λ t. false-true (rw e (N .none (class points y) g)) t) (other-own x y hx hy e) (or-cases (isSet apart (class points x * n + class points y)) _ o))
+
+-- a class without homes
+pub empty-class :
+    (n : ℕ) (apart points heights : List ℕ) {a f : ℕ} (l : List ℕ) → n ≤ f → NextOf n (class points) a 0 f → Adds n (ClassRows n apart points heights a) l l
+empty-class n apart points heights {a} {f} l h N = adds-already n (ClassRows n apart points heights a) l (λ x y hx hy (e, d). absurd (N .none x (omega arith) (omega arith) e))
 
 -- each home is in a class
 pub all-classes :

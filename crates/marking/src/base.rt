@@ -1,14 +1,16 @@
 // The pairs that differ by the classes of their terms, or by a listed disequality.
 use crate::between::mark_between;
-use crate::bits::first_byte;
-use crate::bits::last_byte;
 use crate::bits::pair_number;
 use crate::bits::test_pair;
-use crate::bits::write_pair;
+use crate::far::far_homes;
+use crate::far::fill_others;
+use crate::far::fill_selves;
 use crate::notes::Notes;
+use buckets::chain;
 use pairbits::byte_at;
 use points::places::index;
 use points::places::linked;
+use types::MOST;
 use types::PropositionNumber;
 use types::TermNumber;
 use words::or_word;
@@ -21,10 +23,11 @@ ghost use Rattle.buckets.specs.Buckets.{Chains};
 ghost use Rattle.lists.specs.Lent.{before, after};
 ghost use Rattle.tables.specs.Limits.{most};
 ghost use Rattle.marking.specs.Marks.{Adds, Inside, Room, Upto, zeros};
-ghost use Rattle.points.specs.Places.{Chained, class, classSlots, Column};
+ghost use Rattle.points.specs.Places.{Chained, classSlots, Column};
 ghost use Rattle.points.specs.Homes.{Unique};
-ghost use Rattle.marking.specs.Classes.{ClassPair, classesDiffer, differsFrom, ListedPair, NoneApart, otherHeight, PointsDiffer, Side, Sides};
-ghost use Rattle.marking.specs.Rows.{ApartRow, Below, ClassRows, MaskPair, OwnMask, OwnRow};
+ghost use Rattle.marking.specs.Classes.{classesDiffer, ListedPair, NoneApart, otherHeight, PointsDiffer, Side, Sides};
+ghost use Rattle.marking.specs.Far.{FarRow, Split};
+ghost use Rattle.marking.specs.Rows.{Below, ClassRows, MaskPair, OwnMask, OwnRow};
 
 // Whether two places are in one class at different heights.
 pub(crate) fn other_height(a: u32, p: u64, b: u32, q: u64) -> bool
@@ -40,57 +43,6 @@ pub fn classes_differ(n: usize, a: u32, p: u64, b: u32, q: u64, apart: &[u8]) ->
 {
     let apart_classes = test_pair(n, TermNumber(index(a)), TermNumber(index(b)), apart);
     apart_classes | other_height(a, p, b, q)
-}
-
-// The class b, or the class a where b is none.
-fn class_or(n: usize, b: u32, a: u32) -> u32
-    requires { ⌜ a < n ⌝ }
-    ensures { λ r. ⌜ (r < n) × (b < n → r ≡ b) ⌝ }
-{
-    if index(b) < n { b } else { a }
-}
-
-// Whether j is a home, and differs by its class from the place (a, p). The class of what is no home is n. All is tested in any case: a
-// branch would often be guessed wrong.
-fn differs_from(
-    n: usize,
-    a: u32,
-    p: u64,
-    j: TermNumber,
-    points: &[u32],
-    heights: &[u64],
-    apart: &[u8],
-) -> bool
-    requires { ⌜ Column n (now points) (now heights) × ((a < n) × ((j .0 < n) × Room n (now apart))) ⌝ }
-    ensures { λ r. ⌜ r ≡ differsFrom n (before apart) (before points) (before heights) a p (j .0) ⌝ }
-{
-    let y = j.0;
-    let b = points[y];
-    let c = class_or(n, b, a);
-    (index(b) < n) & classes_differ(n, a, p, c, heights[y], apart)
-}
-
-// The pairs of the home i that differ by their classes.
-fn mark_row(
-    n: usize,
-    i: TermNumber,
-    points: &[u32],
-    heights: &[u64],
-    apart: &[u8],
-    pairs: &mut [u8],
-)
-    requires { ⌜ Column n (now points) (now heights) × ((i .0 < n) × ((class (now points) (i .0) < n) × (Room n (now apart) × Room n (now pairs)))) ⌝ }
-    ensures { λ _. ⌜ Adds n (Upto n (ClassPair n (before apart) (before points) (before heights) (i .0))) (before pairs) (after pairs) ⌝ }
-{
-    let x = i.0;
-    let a = points[x];
-    let p = heights[x];
-    let mut byte = first_byte(n, i, pairs);
-    for j in 0..n {
-        let differs = differs_from(n, a, p, TermNumber(j), points, heights, apart);
-        byte = write_pair(n, i, TermNumber(j), byte, differs, pairs);
-    }
-    last_byte(n, i, byte, pairs);
 }
 
 // Whether no class is apart from class a: all bytes that hold its bits are 0.
@@ -127,14 +79,14 @@ pub fn own_homes(
     }
 }
 
-// The pairs of i with the terms of a mask, but for i itself, by words.
-pub fn mark_masked(n: usize, i: TermNumber, mask: &[u64], pairs: &mut [u8])
+// The pairs of i with the terms of a mask but j, by words.
+pub fn mark_masked(n: usize, i: TermNumber, j: usize, mask: &[u64], pairs: &mut [u8])
     requires { ⌜ Below n (now mask) × (Inside n (i .0) (i .0) × Room n (now pairs)) ⌝ }
-    ensures { λ _. ⌜ Adds n (MaskPair (before mask) (i .0)) (before pairs) (after pairs) ⌝ }
+    ensures { λ _. ⌜ Adds n (MaskPair (before mask) (i .0) j) (before pairs) (after pairs) ⌝ }
 {
-    let start = pair_number(n, i, TermNumber(0));
     for w in 0..(n + 63) / 64 {
-        or_word(pairs, start + 64 * w, word_without(mask, w, i.0));
+        let at = pair_number(n, i, TermNumber(64 * w));
+        or_word(pairs, at, word_without(mask, w, j));
     }
 }
 
@@ -153,36 +105,40 @@ fn mark_own(
 {
     let mut i = linked(class_first, a);
     while i < n {
-        mark_masked(n, TermNumber(i), own, pairs);
+        mark_masked(n, TermNumber(i), i, own, pairs);
         i = linked(class_next, i);
     }
 }
 
-// The pairs of the homes of class a that differ by their classes.
-fn mark_rows(
+// The pairs of the homes of class a with those of a mask.
+fn mark_far(
     n: usize,
     a: usize,
+    far: &[u64],
     points: &[u32],
-    heights: &[u64],
-    apart: &[u8],
     class_first: &[u16],
     class_next: &[u16],
     pairs: &mut [u8],
 )
-    requires { ⌜ Column n (now points) (now heights) × (Chains n classSlots (now points) (now «class_first») (now «class_next») × ((a < n) × (Room n (now apart) × Room n (now pairs)))) ⌝ }
-    ensures { λ _. ⌜ Adds n (Upto n (ApartRow n (before apart) (before points) (before heights) a)) (before pairs) (after pairs) ⌝ }
+    requires { ⌜ Chains n classSlots (now points) (now «class_first») (now «class_next») × ((n ≤ most) × ((a < n) × (Below n (now far) × Room n (now pairs)))) ⌝ }
+    ensures { λ _. ⌜ Adds n (Upto n (FarRow n (before points) (before far) a)) (before pairs) (after pairs) ⌝ }
 {
     let mut i = linked(class_first, a);
     while i < n {
-        mark_row(n, TermNumber(i), points, heights, apart, pairs);
+        mark_masked(n, TermNumber(i), n, far, pairs);
         i = linked(class_next, i);
     }
 }
 
-// The same. Where no class is apart from a, only its own homes differ from each other: no two of them are at one place.
+// The pairs of the homes of class a that differ by their classes: with each other, as no two of them are at one place, and with the homes
+// of classes that are apart from a.
 fn mark_class(
     n: usize,
     a: usize,
+    selves: &[u64],
+    others: &[u32],
+    other_first: &[u16],
+    other_next: &[u16],
     points: &[u32],
     heights: &[u64],
     apart: &[u8],
@@ -191,15 +147,67 @@ fn mark_class(
     pairs: &mut [u8],
 )
     requires { ⌜ Column n (now points) (now heights) × (Unique n (now points) (now heights) × (Chains n classSlots (now points) (now «class_first») (now «class_next») × ((a < n) × (Room n (now apart) × Room n (now pairs))))) ⌝ }
+    requires { ⌜ Split n (now points) (now selves) (now others) (now «other_first») (now «other_next») ⌝ }
     ensures { λ _. ⌜ Adds n (ClassRows n (before apart) (before points) (before heights) a) (before pairs) (after pairs) ⌝ }
 {
-    if none_apart(n, a, apart) {
-        let mut own = [0u64; 8];
-        own_homes(n, a, points, class_first, class_next, &mut own);
-        mark_own(n, a, &own, points, class_first, class_next, pairs);
+    if n <= linked(class_first, a) {
         return;
     }
-    mark_rows(n, a, points, heights, apart, class_first, class_next, pairs);
+    let mut own = [0u64; 8];
+    own_homes(n, a, points, class_first, class_next, &mut own);
+    mark_own(n, a, &own, points, class_first, class_next, pairs);
+    if none_apart(n, a, apart) {
+        return;
+    }
+    let mut far = [0u64; 8];
+    far_homes(
+        n,
+        a,
+        selves,
+        others,
+        other_first,
+        other_next,
+        points,
+        apart,
+        &mut far,
+    );
+    mark_far(n, a, &far, points, class_first, class_next, pairs);
+}
+
+// The same of all classes.
+fn mark_each(
+    n: usize,
+    selves: &[u64],
+    others: &[u32],
+    other_first: &[u16],
+    other_next: &[u16],
+    points: &[u32],
+    heights: &[u64],
+    apart: &[u8],
+    class_first: &[u16],
+    class_next: &[u16],
+    pairs: &mut [u8],
+)
+    requires { ⌜ Column n (now points) (now heights) × (Unique n (now points) (now heights) × (Chains n classSlots (now points) (now «class_first») (now «class_next») × (Room n (now apart) × Room n (now pairs)))) ⌝ }
+    requires { ⌜ Split n (now points) (now selves) (now others) (now «other_first») (now «other_next») ⌝ }
+    ensures { λ _. ⌜ Adds n (PointsDiffer n (before apart) (before points) (before heights)) (before pairs) (after pairs) ⌝ }
+{
+    for a in 0..n {
+        mark_class(
+            n,
+            a,
+            selves,
+            others,
+            other_first,
+            other_next,
+            points,
+            heights,
+            apart,
+            class_first,
+            class_next,
+            pairs,
+        );
+    }
 }
 
 // The pairs of homes that differ by their classes. Public for the crate `differences`.
@@ -215,9 +223,26 @@ pub fn mark_classes(
     requires { ⌜ Column n (now points) (now heights) × (Unique n (now points) (now heights) × (Chains n classSlots (now points) (now «class_first») (now «class_next») × (Room n (now apart) × Room n (now pairs)))) ⌝ }
     ensures { λ _. ⌜ Adds n (PointsDiffer n (before apart) (before points) (before heights)) (before pairs) (after pairs) ⌝ }
 {
-    for a in 0..n {
-        mark_class(n, a, points, heights, apart, class_first, class_next, pairs);
-    }
+    let mut selves = [0u64; 8];
+    let mut others = [0u32; MOST];
+    let mut other_first = [0u16; 2];
+    let mut other_next = [0u16; MOST];
+    fill_selves(n, points, &mut selves);
+    fill_others(n, points, &mut others);
+    chain(n, &others, &mut other_first, &mut other_next);
+    mark_each(
+        n,
+        &selves,
+        &others,
+        &other_first,
+        &other_next,
+        points,
+        heights,
+        apart,
+        class_first,
+        class_next,
+        pairs,
+    );
 }
 
 // The pairs as far apart as the sides of proposition k, if it is a disequality. One inside a class gives pairs that differ by their class.

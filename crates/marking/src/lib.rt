@@ -3,6 +3,7 @@ pub mod base;
 mod between;
 pub mod bits;
 pub mod distance;
+mod far;
 mod indexed;
 mod known;
 pub mod notes;

@@ -1,4 +1,4 @@
-// One bit of a byte table: bit i is bit i % 8, lowest first, of byte i / 8. Public for the crates `distances`,
+// One bit of a byte table: bit i is bit i % 8, lowest first, of byte i / 8. Public for the crates `words`, `distances`,
 // `marking` and `refusals`.
 ghost use mathlib.Core.Path.{_≡_};
 ghost use Prim.Native.Nat.{_/_, _<_};

@@ -8,7 +8,7 @@ use native.Mathlib.Nat.{zero-div, div-eq-of-lt, mul-le-mul-right, mod-lt}
 use native.Mathlib.Omega.{arith}
 use lib.Bits.{bitOr, bitAnd, bitXor, or-shr, or-step, and-shr, and-step, xor-shr, xor-step, or-lt, or-shifted-r, and-mask}
 use lib.Dec.{eqb, leb, ltb}
-use lib.ListN.{length, getD, set, length-set}
+use lib.ListN.{length, getD, set, length-set, List·getD-eq-default}
 use lib.Pow.{shl-exact, shr-le, shr-shr, pow-pos, pow-lt, pow-add, high, low, field, mod-mod-pow}
 use lib.Seq.{getD-set-same, getD-set-other}
 use borrow.Author.Tests.{eqb-true, eqb-false, eq-eqb, ne-eqb, ltb-true, ltb-false, lt-ltb, le-ltb, leb-true, leb-false, le-leb, lt-leb}
@@ -423,6 +423,20 @@ pub record Put (old : List ℕ) (j : ℕ) (new : List ℕ) : Type 0 where
 
 pub put-bit : (mask : List ℕ) (j : ℕ) → j / 64 < length mask → Put mask j (set mask (j / 64) (bitOr (getD mask (j / 64) 0) (1 * 2 ^ (j % 64) % 2 ^ 64)))
 put-bit mask j h = record { long = length-set mask (j / 64) _; bits = λ v. mask-more mask j v h }
+
+-- word w of a mask, stored anew
+pub mask-stored : (mask : List ℕ) (w x v : ℕ) → w < length mask → v / 64 ≡ w → inMask (set mask w x) v ≡ isOne x (v % 64)
+unfolding inMask
+mask-stored mask w x v h e = rw (e, getD-set-same mask w x 0 h)
+
+pub mask-others : (mask : List ℕ) (w x v : ℕ) → v / 64 ≢ w → inMask (set mask w x) v ≡ inMask mask v
+unfolding inMask
+mask-others mask w x v m = rw (getD-set-other mask w (v / 64) x 0 m)
+
+-- a mask holds no number past its words
+pub mask-past : (mask : List ℕ) (v : ℕ) → length mask ≤ v / 64 → inMask mask v ≡ false
+unfolding inMask
+mask-past mask v h = rw (List·getD-eq-default mask 0 h) (one-past 0 0 (v % 64) (omega arith) (omega arith))
 
 -- r is word w of a mask, without number j
 pub record Without (mask : List ℕ) (w j r : ℕ) : Type 0 where

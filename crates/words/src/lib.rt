@@ -235,7 +235,7 @@ fn lowest(word: u64) -> usize
 }
 
 // The bits of the row and the mask from number v on, up to the end of the mask's word.
-fn common(start: usize, table: &[u8], mask: &[u64], v: usize) -> u64
+pub fn common(start: usize, table: &[u8], mask: &[u64], v: usize) -> u64
     requires { ⌜ start + v + 64 < 2 ^ 64 ⌝ }
     ensures { λ r. ⌜ Common start (before table) (before mask) v r ⌝ }
 {

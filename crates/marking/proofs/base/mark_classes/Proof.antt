@@ -1,35 +1,33 @@
--- `marking::base::mark_classes` meets its contract. The invariant: the first a classes are done.
-use Prim.Native.Nat.{_-_}
+-- `marking::base::mark_classes` meets its contract.
 use native.Mathlib.Omega.{arith}
 use denote.Ref.{now}
-use Rattle.marking.specs.Marks.{Marking, marking-start, marking-more, marking-done, room-kept}
-use Rattle.marking.specs.Rows.{ClassRows, all-classes}
+use borrow.Author.Needs.{needs}
+use Rattle.marking.specs.Far.{others-chainable}
 use Rattle.marking.proofs.base.mark_classes.Statement.{statement}
 use Rattle.marking.proofs.base.mark_classes.Tie as tie
 
-abbrev Inv-loop : tie.InvT-loop
-Inv-loop n points heights apart class-first class-next pairs₀ a₀ pairs a = Marking n n a (ClassRows n apart points heights) pairs₀ pairs
+chain-requires : tie.Need-chain-requires
+chain-requires c κs = let C = c .before .before .before .before .before .before .before .before .before .before .before .before .before .before .before .pre .0 in others-chainable (now (c .before .before .before .before .before .before .before .before .before .before .before .before .before .before .before .args .points)) (C .few) (omega (arith, C .few)) (omega (arith, C .few)) (c .before .before .before .before .fill-others .ensures)
 
-abbrev μ-loop : tie.MeasureT-loop
-μ-loop n points heights apart class-first class-next pairs₀ a₀ pairs a = n - a
-
-mark-class-requires : tie.Need-mark-class-requires Inv-loop μ-loop
-mark-class-requires c κs = let s = c .before .before .before .before .before .before .before .before .before in
-    (s .pre .0, (s .pre .1 .0, (s .pre .1 .1 .0, (c .before .loop-test .taken, (s .pre .1 .1 .1 .0, room-kept (s .args .n) (c .before .before .loop .inv .marks) (s .pre .1 .1 .1 .1))))))
-
-returns : tie.Need-returns Inv-loop μ-loop
-returns c = let s = c .before .before .before .before .before .before .before .before .args in all-classes (s .n) (now (s .apart)) (now (s .points)) (now (s .heights)) (marking-done (c .loop-test .left) (c .before .loop .inv))
+mark-each-requires : tie.Need-mark-each-requires
+mark-each-requires c κs = let s = c .before .before .before .before .before .before .before .before .before .before .before .before .before .before .before .before .before .before .before .before .before .before .before in (s .pre, record { selves-are = c .before .before .before .before .before .before .before .before .before .before .before .before .before .before .before .fill-selves .ensures; others-are = c .before .before .before .before .before .before .before .before .before .before .before .before .fill-others .ensures .done; chains = c .before .before .before .before .before .before .before .chain .ensures })
 
 pub mark-classes-spec : {M : Type 1} → statement M
 mark-classes-spec =
     tie.close
     (tie.spec
-    Inv-loop
-    μ-loop
-    (λ c. marking-start (now (c .before .before .before .before .before .before .args .pairs)))
-    mark-class-requires
-    (λ c. omega arith)
-    (λ c. omega arith)
-    (λ c. marking-more (c .before .before .before .before .loop-test .taken) (c .before .before .before .before .before .loop .inv) (c .before .before .mark-class .ensures))
-    (λ c. c .before .loop .inv .marks .long)
-    returns)
+    (λ c. search needs)
+    (λ c κs. search needs)
+    (λ c. search needs)
+    (λ c κs. search needs)
+    (λ c. search needs)
+    (λ c. search needs)
+    (λ c. search needs)
+    chain-requires
+    (λ c. search needs)
+    (λ c. search needs)
+    (λ c. search needs)
+    (λ c. search needs)
+    mark-each-requires
+    (λ c. search needs)
+    (λ c. search needs))

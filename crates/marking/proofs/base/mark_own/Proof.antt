@@ -36,7 +36,7 @@ loop-again c = let s = c .before .before .before .before .before .before .before
     let E = OwnRow (now (a .points)) (now (a .own)) (a .a) in
     rw (c .linked2 .ensures)
     (walking-more E (λ j x y h e. e .0) h (s .pre .0 .links .links i (omega arith) h) (c .before .before .before .before .before .before .loop .inv)
-    (adds-as (a .n) (MaskPair (now (a .own)) i) (E i) (c .before .before .before .mark-masked .ensures)
+    (adds-as (a .n) (MaskPair (now (a .own)) i i) (E i) (c .before .before .before .mark-masked .ensures)
     (λ x y hx hy d. (c .before .before .before .before .before .before .loop .inv .here h, d))
     (λ x y hx hy d. d .1)))
 
