@@ -12,7 +12,7 @@ use Rattle.lists.specs.Booleans.{and-true, both-true, false-true, or-cases, or-
 use Rattle.lists.specs.Filled.{same-or-not}
 use Rattle.pairbits.specs.Bits.{isSet, isSet-zero}
 use Rattle.points.specs.Places.{class, height, At, AtEither, top}
-use Rattle.marking.specs.Marks.{Adds, One, OneIf, Upto, adds-as}
+use Rattle.marking.specs.Marks.{Adds, One, Upto, adds-as}
 
 -- one class, at another height
 abbrev pub otherHeight : ℕ → ℕ → ℕ → ℕ → Bool

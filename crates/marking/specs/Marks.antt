@@ -14,8 +14,7 @@ use Rattle.lists.specs.Filled.{same-or-not}
 use Rattle.buckets.specs.Buckets.{NextOf, less-or-not}
 use Rattle.lists.specs.Booleans.{false-true, or-cases, or-second}
 use Rattle.tables.specs.Limits.{most}
-use Rattle.pairbits.specs.Writing.{seen, Written, length-seen, seen-start}
-use Rattle.pairbits.specs.Bits.{isSet, withBit, withBitIf, isSet-withBit, isSet-zero, length-withBit, Bytes, bytes-withBit}
+use Rattle.pairbits.specs.Bits.{isSet, withBit, isSet-withBit, isSet-zero, length-withBit, Bytes, bytes-withBit}
 
 -- i and j are among n terms, of which there are not too many
 pub record Inside (n i j : ℕ) : Type 0 where
@@ -48,10 +47,6 @@ Room n l = n * n ≤ 8 * length l
 -- one pair; a pair and its mirror image
 abbrev pub One : ℕ → ℕ → ℕ → ℕ → Type 0
 One i j x y = (x ≡ i) × (y ≡ j)
-
--- one pair if b is true
-abbrev pub OneIf : Bool → ℕ → ℕ → ℕ → ℕ → Type 0
-OneIf b i j x y = (b ≡ true) × One i j x y
 
 abbrev pub Both : ℕ → ℕ → ℕ → ℕ → Type 0
 Both i j x y = One i j x y ⊎ One j i x y
@@ -128,10 +123,6 @@ module _ (n : ℕ) where
     only = λ k e. ⊎-elim inl (λ (r : PairOf n D k). inr (r .0, r .1, r .2, r .3, r .4, f (r .0) (r .1) (r .2) (r .3) (r .5))) (a .only k e);
   }
 
-  pub adds-bit-if : (b : Bool) (i j : ℕ) (l : List ℕ) → i < n → j < n → Room n l → Adds n (OneIf b i j) l (withBitIf b l (i * n + j))
-  adds-bit-if true i j l hi hj room = adds-as (One i j) (OneIf true i j) (adds-bit i j l hi hj room) (λ x y hx hy d. (refl, d)) (λ x y hx hy d. d .1)
-  adds-bit-if false i j l hi hj room = adds-none (OneIf false i j) l (λ x y d. false-true refl (d .0))
-
   -- a loop over a sequence of relations
   module _ (E : ℕ → ℕ → ℕ → Type 0) where
     pub upto-none : (l : List ℕ) → Adds n (Upto 0 E) l l
@@ -170,14 +161,6 @@ module _ (n : ℕ) where
       (λ (r : PairOf n D k). let b : r .0 * n + r .1 < n * n = digits-lt (r .2) (r .3) in let s = r .4 in absurd (omega arith))
       (a .only k e)
 
--- a bit written in the order of the pairs of i
-pub adds-written :
-    (n : ℕ) (b : Bool) (i j byte : ℕ) {next : ℕ} {old new : List ℕ} → i < n → j < n → Room n old →
-    Written b old (i * n + j) byte new next → Adds n (OneIf b i j) (seen old (i * n + j) byte) (seen new (i * n + (j + 1)) next)
-adds-written n b i j byte {next} {old} {new} hi hj room W =
-    let k : i * n + (j + 1) ≡ i * n + j + 1 = omega arith in
-    rw (k, W .is) (adds-bit-if n b i j (seen old (i * n + j) byte) hi hj (rw (length-seen old (i * n + j) byte) room))
-
 -- a loop that has set the bits of the first k of m relations
 pub record Marking (n m k : ℕ) (E : ℕ → ℕ → ℕ → Type 0) (old new : List ℕ) : Type 0 where
   pub upto : k ≤ m
@@ -195,19 +178,6 @@ module _ {n m : ℕ} {E : ℕ → ℕ → ℕ → Type 0} where
 
   pub marking-done : {k : ℕ} {old new : List ℕ} → m ≤ k → Marking n m k E old new → Adds n (Upto m E) old new
   marking-done {k} {old} {new} h a = let e : k ≡ m = let u = a .upto in omega arith in rw e at (a .marks)
-
--- the bits of the pairs of i written in order, one for each relation
-module _ (n i : ℕ) (E : ℕ → ℕ → ℕ → Type 0) where
-  pub row-start : (l : List ℕ) {byte : ℕ} → byte ≡ getD l (i * n / 8) 0 → Marking n n 0 E l (seen l (i * n + 0) byte)
-  row-start l e =
-      let k : i * n + 0 ≡ i * n = omega arith in
-      rw (k, e, seen-start l (i * n)) (marking-start l)
-
-  pub row-long : (l : List ℕ) (byte : ℕ) {j : ℕ} {old : List ℕ} → Marking n n j E old (seen l (i * n + j) byte) → length l ≡ length old
-  row-long l byte {j} a = sym (length-seen l (i * n + j) byte) ∙ a .marks .long
-
-  pub row-done : (l : List ℕ) (byte : ℕ) {j : ℕ} {old : List ℕ} → n ≤ j → Marking n n j E old (seen l (i * n + j) byte) → Adds n (Upto n E) old (seen l (i * n + n) byte)
-  row-done l byte {j} {old} h a = let e : j ≡ n = let u = a .upto in omega arith in rw e at (a .marks)
 
 -- what the first k relations hold, where the next ones up to f hold nothing
 pub marking-jump : {n m k f : ℕ} (E : ℕ → ℕ → ℕ → Type 0) {old new : List ℕ} → k ≤ f → f ≤ m → ((j x y : ℕ) → k ≤ j → j < f → E j x y → ⊥) → Marking n m k E old new → Marking n m f E old new

@@ -60,7 +60,7 @@ fn none_apart(n: usize, a: usize, apart: &[u8]) -> bool
     true
 }
 
-// Puts the homes of class a into a mask.
+// Puts the homes of class a into a mask. Public for the crate `expansion`.
 pub fn own_homes(
     n: usize,
     a: usize,
@@ -79,7 +79,7 @@ pub fn own_homes(
     }
 }
 
-// The pairs of i with the terms of a mask but j, by words.
+// The pairs of i with the terms of a mask but j, by words. Public for the crate `expansion`.
 pub fn mark_masked(n: usize, i: TermNumber, j: usize, mask: &[u64], pairs: &mut [u8])
     requires { ⌜ Below n (now mask) × (Inside n (i .0) (i .0) × Room n (now pairs)) ⌝ }
     ensures { λ _. ⌜ Adds n (MaskPair (before mask) (i .0) j) (before pairs) (after pairs) ⌝ }

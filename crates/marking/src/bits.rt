@@ -3,11 +3,9 @@ use types::TermNumber;
 ghost use mathlib.Core.Path.{_≡_};
 ghost use mathlib.Core.Bool.{_&&_};
 ghost use Prim.Native.Nat.{_+_, _*_, _/_, _<_, _≤_};
-ghost use lib.ListN.{getD};
 ghost use Rattle.lists.specs.Lent.{before, after};
 ghost use Rattle.tables.specs.Limits.{most};
 ghost use Rattle.pairbits.specs.Bits.{isSet};
-ghost use Rattle.pairbits.specs.Writing.{seen, Written};
 ghost use Rattle.marking.specs.Marks.{Adds, Both, Inside, One, Room};
 
 // The number of a pair's bit.
@@ -18,7 +16,7 @@ pub(crate) fn pair_number(n: usize, i: TermNumber, j: TermNumber) -> usize
     i.0 * n + j.0
 }
 
-// Sets the bit of a pair. Public for the crates `differences` and `placing`.
+// Sets the bit of a pair. Public for the crates `expansion`, `differences` and `placing`.
 pub fn set_pair(n: usize, i: TermNumber, j: TermNumber, table: &mut [u8])
     requires { ⌜ Inside n (i .0) (j .0) × Room n (now table) ⌝ }
     ensures { λ _. ⌜ Adds n (One (i .0) (j .0)) (before table) (after table) ⌝ }
@@ -34,34 +32,6 @@ pub fn set_both(n: usize, i: TermNumber, j: TermNumber, table: &mut [u8])
 {
     set_pair(n, i, j, table);
     set_pair(n, j, i, table);
-}
-
-// The bits of the pairs of i may be written one after another (pairbits `write_bit`). The byte of the first one. Public for the crate
-// `differences`.
-pub fn first_byte(n: usize, i: TermNumber, table: &[u8]) -> u8
-    requires { ⌜ (n ≤ most) × (i .0 < n) ⌝ }
-    ensures { λ r. ⌜ r ≡ getD (before table) (i .0 * n / 8) 0 ⌝ }
-{
-    let at = pair_number(n, i, TermNumber(0));
-    pairbits::byte_at(table, at / 8)
-}
-
-// The bit of the pair (i, j), set if b is true, into its byte. Returns the byte of the next one. Public for the crate `differences`.
-pub fn write_pair(n: usize, i: TermNumber, j: TermNumber, byte: u8, b: bool, table: &mut [u8]) -> u8
-    requires { ⌜ Inside n (i .0) (j .0) × Room n (now table) ⌝ }
-    ensures { λ r. ⌜ Written b (before table) (i .0 * n + j .0) byte (after table) r ⌝ }
-{
-    let at = pair_number(n, i, j);
-    pairbits::write_bit(table, at, byte, b)
-}
-
-// The byte after the last one. Public for the crate `differences`.
-pub fn last_byte(n: usize, i: TermNumber, byte: u8, table: &mut [u8])
-    requires { ⌜ (n ≤ most) × (i .0 < n) ⌝ }
-    ensures { λ _. ⌜ after table ≡ seen (before table) (i .0 * n + n) byte ⌝ }
-{
-    let at = pair_number(n, i, TermNumber(0));
-    pairbits::store_byte(table, at + n, byte);
 }
 
 // Whether the bit of a pair is set. Public for the crates `differences` and `questions`.

@@ -1,5 +1,5 @@
-// Words of 64 bits of a byte table, read and set at any bit, and masks: words with a bit for each number. Public for the crates `marking`
-// and `differences`.
+// Words of 64 bits of a byte table, read and set at any bit, and masks: words with a bit for each number. Public for the crates
+// `marking`, `expansion` and `differences`.
 use pairbits::set_bit;
 use pairbits::test_bit;
 ghost use mathlib.Core.Path.{_≡_};
