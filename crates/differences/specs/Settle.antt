@@ -529,6 +529,10 @@ module _ {S : Setting} {r : ℕ} {leads : List ℕ} where
         both : a ≡ false → b ≡ false → ClosedLeads S r leads new x (l + 1)
         both e f = record { terms = λ v g d. ⊎-elim (λ (s : v ≡ l). rw s (q .closed f)) (λ (m : v ≢ l). rw (q .step .same f) (L .closed e .terms v (omega arith) d)) (same-or-not v l) }
 
+    -- something was set
+    pub lead-set : {l : ℕ} {a : Bool} {old mid new doneOld doneMid doneNew : List ℕ} → l < r → LeadLoop S r leads x l a old mid doneOld doneMid → Step S true mid new doneMid doneNew → LeadLoop S r leads x (l + 1) true old new doneOld doneNew
+    lead-set {a = a} h L q = record { upto = omega arith; step = rw (or-true a) at (step-then (L .step) q); closed = λ e. false-true e refl }
+
     pub lead-done : {l : ℕ} {c : Bool} {old new doneOld doneNew : List ℕ} → r ≤ l → LeadLoop S r leads x l c old new doneOld doneNew → Sweeping S r leads x c old new doneOld doneNew
     lead-done h L = record { step = L .step; closed = λ e. record { row = λ v g b. L .closed e .terms v (omega arith) b } }
 

@@ -788,6 +788,11 @@ fn sweep_leads(
         if !leads_on(n, x, TermNumber(y), homes, reads, apart, pairs, done) {
             continue;
         }
+        if was_fired(n, x, TermNumber(y), reads, read_heights, done, notes) {
+            set_pair(n, x, TermNumber(y), done);
+            changed = true;
+            continue;
+        }
         let more = follow(
             n,
             limit,

@@ -4,7 +4,7 @@ use mathlib.Core.Path.{_≡_, _∙_}
 use native.Mathlib.Omega.{arith}
 use borrow.Author.Tests.{not-true, not-false}
 use Rattle.lists.specs.Booleans.{and-true}
-use Rattle.differences.specs.Settle.{setting, closed-off, LeadLoop, lead-start, lead-closed, lead-more, lead-left, lead-done}
+use Rattle.differences.specs.Settle.{setting, closed-off, fired, repeated-adds, LeadLoop, lead-start, lead-closed, lead-more, lead-set, lead-left, lead-done}
 use borrow.Author.Needs.{needs}
 use Rattle.differences.proofs.settling.sweep_leads.Statement.{statement}
 use Rattle.differences.proofs.settling.sweep_leads.Tie as tie
@@ -42,29 +42,44 @@ loop-less-2 c = omega (arith, (c .before .before .before .before .before .before
 loop-again-2 : tie.Need-loop-again-2 Inv-loop μ-loop
 loop-again-2 c = lead-closed ((c .before .before .before .before .before .before .before) .loop-test .taken) ((c .before .before .before .before .before .before .before .before) .loop .inv) (λ _. rw ((c .before .before .before .before .before .before) .linked .ensures) at (closed-off ((c .before .before .before .before .before .before .before .before) .loop .inv .step .kept) ((c .before) .leads-on .ensures) (not-true _ (c .if2 .taken))))
 
+was-fired-requires : tie.Need-was-fired-requires Inv-loop μ-loop
+was-fired-requires c κs = let s = (c .before .before .before .before .before .before .before .before .before .before .before .before .before .before .before .before .before .before .before .before .before .before .before .before .before .before .before .before .before) in (s .pre .1 .0 .0 .reading, (record { few = s .pre .1 .0 .0 .reading .few; left = s .pre .1 .1 .0; right = omega (arith, (c .before .before .before .before .before .before .before .before) .linked .ensures, s .pre .1 .1 .1 .below ((c .before .before .before .before .before .before .before .before .before .before) .loop .l) ((c .before .before .before .before .before .before .before .before .before) .loop-test .taken)) }, (c .before .before .before .before .before .before .before .before .before .before) .loop .inv .step .kept .done-room))
+
+set-pair-requires : tie.Need-set-pair-requires Inv-loop μ-loop
+set-pair-requires c κs = let s = (c .before .before .before .before .before .before .before .before .before .before .before .before .before .before .before .before .before .before .before .before .before .before .before .before .before .before .before .before .before .before .before .before) in (record { few = s .pre .1 .0 .0 .reading .few; left = s .pre .1 .1 .0; right = omega (arith, (c .before .before .before .before .before .before .before .before .before .before .before) .linked .ensures, s .pre .1 .1 .1 .below ((c .before .before .before .before .before .before .before .before .before .before .before .before .before) .loop .l) ((c .before .before .before .before .before .before .before .before .before .before .before .before) .loop-test .taken)) }, (c .before .before .before .before .before .before .before .before .before .before .before .before .before) .loop .inv .step .kept .done-room)
+
+add-l-3 : tie.Need-add-l-3 Inv-loop μ-loop
+add-l-3 c = let s = (c .before .before .before .before .before .before .before .before .before .before .before .before .before .before .before .before .before .before .before .before .before .before .before .before .before .before .before .before .before .before .before .before .before .before .before) in omega (arith, (c .before .before .before .before .before .before .before .before .before .before .before .before .before .before .before) .loop-test .taken, s .pre .1 .1 .1 .few)
+
+loop-less-3 : tie.Need-loop-less-3 Inv-loop μ-loop
+loop-less-3 c = omega (arith, (c .before .before .before .before .before .before .before .before .before .before .before .before .before .before .before) .loop-test .taken)
+
+loop-again-3 : tie.Need-loop-again-3 Inv-loop μ-loop
+loop-again-3 c = let s = (c .before .before .before .before .before .before .before .before .before .before .before .before .before .before .before .before .before .before .before .before .before .before .before .before .before .before .before .before .before .before .before .before .before .before .before) in let on = not-false _ ((c .before .before .before .before .before .before .before .before) .if2 .left) in let q = (c .before .before .before .before .before .before .before .before .before) .leads-on .ensures .reading on in let Q = (c .before .before .before .before .before .before .before .before .before .before .before .before .before .before .before .before) .loop .inv .step .kept in lead-set ((c .before .before .before .before .before .before .before .before .before .before .before .before .before .before .before) .loop-test .taken) ((c .before .before .before .before .before .before .before .before .before .before .before .before .before .before .before .before) .loop .inv) (fired (s .pre .1 .0 .0) (record { left = s .pre .1 .1 .0; right = omega (arith, (c .before .before .before .before .before .before .before .before .before .before .before .before .before .before) .linked .ensures, s .pre .1 .1 .1 .below ((c .before .before .before .before .before .before .before .before .before .before .before .before .before .before .before .before) .loop .l) ((c .before .before .before .before .before .before .before .before .before .before .before .before .before .before .before) .loop-test .taken)); left-reads = q .0; right-reads = q .1 }) ((c .before .before .before .before .before .before .before .before .before) .leads-on .ensures .set on) ((c .before .before .before .before .before .before .before .before .before) .leads-on .ensures .new on) Q (repeated-adds Q ((c .before .before .before .before .before) .was-fired .ensures ((c .before .before .before .before) .if3 .taken))) ((c .before .before) .set-pair .ensures) .0)
+
 follow-requires : tie.Need-follow-requires Inv-loop μ-loop
-follow-requires c κs = let s = (c .before .before .before .before .before .before .before .before .before .before .before .before .before .before .before .before .before .before .before .before .before .before .before .before .before .before .before .before .before .before) in (s .pre .0, ((s .pre .1 .0 .0, (c .before .before .before .before .before .before .before .before .before .before .before) .loop .inv .step .kept), (s .pre .1 .1 .0, omega (arith, (c .before .before .before .before .before .before .before .before .before) .linked .ensures, s .pre .1 .1 .1 .below ((c .before .before .before .before .before .before .before .before .before .before .before) .loop .l) ((c .before .before .before .before .before .before .before .before .before .before) .loop-test .taken)))))
+follow-requires c κs = let s = (c .before .before .before .before .before .before .before .before .before .before .before .before .before .before .before .before .before .before .before .before .before .before .before .before .before .before .before .before .before .before .before .before .before .before) in (s .pre .0, ((s .pre .1 .0 .0, (c .before .before .before .before .before .before .before .before .before .before .before .before .before .before .before) .loop .inv .step .kept), (s .pre .1 .1 .0, omega (arith, (c .before .before .before .before .before .before .before .before .before .before .before .before .before) .linked .ensures, s .pre .1 .1 .1 .below ((c .before .before .before .before .before .before .before .before .before .before .before .before .before .before .before) .loop .l) ((c .before .before .before .before .before .before .before .before .before .before .before .before .before .before) .loop-test .taken)))))
 
 is-over-requires : tie.Need-is-over-requires Inv-loop μ-loop
 is-over-requires c κs = search needs
 
 same-length : tie.Need-same-length Inv-loop μ-loop
-same-length c = (c .before .before .before .before .before .before .before) .follow .ensures .step .grows .long ∙ (c .before .before .before .before .before .before .before .before .before .before .before .before .before .before .before .before .before .before .before) .loop .inv .step .grows .long
+same-length c = (c .before .before .before .before .before .before .before) .follow .ensures .step .grows .long ∙ (c .before .before .before .before .before .before .before .before .before .before .before .before .before .before .before .before .before .before .before .before .before .before .before) .loop .inv .step .grows .long
 
 same-length-2 : tie.Need-same-length-2 Inv-loop μ-loop
-same-length-2 c = (c .before .before .before .before .before .before .before) .follow .ensures .step .long ∙ (c .before .before .before .before .before .before .before .before .before .before .before .before .before .before .before .before .before .before .before) .loop .inv .step .long
+same-length-2 c = (c .before .before .before .before .before .before .before) .follow .ensures .step .long ∙ (c .before .before .before .before .before .before .before .before .before .before .before .before .before .before .before .before .before .before .before .before .before .before .before) .loop .inv .step .long
 
 returns : tie.Need-returns Inv-loop μ-loop
-returns c = lead-left (and-true _ _ (c .if3 .taken) .0) ((c .before .before .before .before .before .before .before .before .before .before .before .before .before .before .before .before .before .before .before) .loop .inv) (rw ((c .before .before .before .before .before .before .before .before .before .before .before .before .before .before .before .before .before) .linked .ensures) at ((c .before .before .before .before .before .before .before) .follow .ensures))
+returns c = lead-left (and-true _ _ (c .if4 .taken) .0) ((c .before .before .before .before .before .before .before .before .before .before .before .before .before .before .before .before .before .before .before .before .before .before .before) .loop .inv) (rw ((c .before .before .before .before .before .before .before .before .before .before .before .before .before .before .before .before .before .before .before .before .before) .linked .ensures) at ((c .before .before .before .before .before .before .before) .follow .ensures))
 
-add-l-3 : tie.Need-add-l-3 Inv-loop μ-loop
-add-l-3 c = let s = (c .before .before .before .before .before .before .before .before .before .before .before .before .before .before .before .before .before .before .before .before .before .before .before .before .before .before .before .before .before .before .before .before .before .before .before .before .before .before) in omega (arith, (c .before .before .before .before .before .before .before .before .before .before .before .before .before .before .before .before .before .before) .loop-test .taken, s .pre .1 .1 .1 .few)
+add-l-4 : tie.Need-add-l-4 Inv-loop μ-loop
+add-l-4 c = let s = (c .before .before .before .before .before .before .before .before .before .before .before .before .before .before .before .before .before .before .before .before .before .before .before .before .before .before .before .before .before .before .before .before .before .before .before .before .before .before .before .before .before .before) in omega (arith, (c .before .before .before .before .before .before .before .before .before .before .before .before .before .before .before .before .before .before .before .before .before .before) .loop-test .taken, s .pre .1 .1 .1 .few)
 
-loop-less-3 : tie.Need-loop-less-3 Inv-loop μ-loop
-loop-less-3 c = omega (arith, (c .before .before .before .before .before .before .before .before .before .before .before .before .before .before .before .before .before .before) .loop-test .taken)
+loop-less-4 : tie.Need-loop-less-4 Inv-loop μ-loop
+loop-less-4 c = omega (arith, (c .before .before .before .before .before .before .before .before .before .before .before .before .before .before .before .before .before .before .before .before .before .before) .loop-test .taken)
 
-loop-again-3 : tie.Need-loop-again-3 Inv-loop μ-loop
-loop-again-3 c = lead-more ((c .before .before .before .before .before .before .before .before .before .before .before .before .before .before .before .before .before .before) .loop-test .taken) ((c .before .before .before .before .before .before .before .before .before .before .before .before .before .before .before .before .before .before .before) .loop .inv) (rw ((c .before .before .before .before .before .before .before .before .before .before .before .before .before .before .before .before .before) .linked .ensures) at ((c .before .before .before .before .before .before .before) .follow .ensures))
+loop-again-4 : tie.Need-loop-again-4 Inv-loop μ-loop
+loop-again-4 c = lead-more ((c .before .before .before .before .before .before .before .before .before .before .before .before .before .before .before .before .before .before .before .before .before .before) .loop-test .taken) ((c .before .before .before .before .before .before .before .before .before .before .before .before .before .before .before .before .before .before .before .before .before .before .before) .loop .inv) (rw ((c .before .before .before .before .before .before .before .before .before .before .before .before .before .before .before .before .before .before .before .before .before) .linked .ensures) at ((c .before .before .before .before .before .before .before) .follow .ensures))
 
 same-length-3 : tie.Need-same-length-3 Inv-loop μ-loop
 same-length-3 c = (c .before) .loop .inv .step .grows .long
@@ -90,14 +105,19 @@ sweep-leads-spec =
     add-l-2
     loop-less-2
     loop-again-2
+    was-fired-requires
+    set-pair-requires
+    add-l-3
+    loop-less-3
+    loop-again-3
     follow-requires
     is-over-requires
     same-length
     same-length-2
     returns
-    add-l-3
-    loop-less-3
-    loop-again-3
+    add-l-4
+    loop-less-4
+    loop-again-4
     same-length-3
     same-length-4
     returns-2)
