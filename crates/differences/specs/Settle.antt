@@ -444,6 +444,17 @@ module _ {S : Setting} {keys : List ℕ} where
     pub key-start : {f : ℕ} {l done : List ℕ} → NextOf (S .n) (keyOf keys) h 0 f → Kept S l done → KeyLoop S keys x h f false l l done done
     key-start N K = record { upto = N .inside; here = N .hit; step = step-none K; closed = λ _. record { terms = λ u g _ e. absurd (N .none u (omega arith) g e) } }
 
+    -- nothing is left to do
+    pub key-off :
+        {t f : ℕ} {c : Bool} {old new doneOld doneNew : List ℕ} → t < S .n → NextOf (S .n) (keyOf keys) (keyOf keys t) (t + 1) f →
+        KeyLoop S keys x h t c old new doneOld doneNew → Closed S new x t → KeyLoop S keys x h f c old new doneOld doneNew
+    key-off {t} {f} ht N L q = record {
+      upto = N .inside;
+      here = λ g. N .hit g ∙ L .here ht;
+      step = L .step;
+      closed = λ e. record { terms = λ u g a k. ⊎-elim (λ o. L .closed e .terms u o a k) (λ (s : u ≡ t). rw s q) (chain-next (S .n) keys h N (L .here ht) g k) };
+    }
+
     -- a look that sets nothing
     pub key-closed :
         {t f : ℕ} {b c : Bool} {old mid new doneOld doneMid doneNew : List ℕ} → t < S .n → NextOf (S .n) (keyOf keys) (keyOf keys t) (t + 1) f → b ≡ false →

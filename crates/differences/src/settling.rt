@@ -637,11 +637,16 @@ fn sweep_home(
     let mut changed = false;
     let mut y = linked(lead_first, h);
     while y < x.0 {
+        let t = y;
+        y = linked(lead_next, t);
+        if !leads_on(n, x, TermNumber(t), homes, reads, apart, pairs, done) {
+            continue;
+        }
         let more = follow(
             n,
             limit,
             x,
-            TermNumber(y),
+            TermNumber(t),
             points,
             heights,
             class_first,
@@ -661,7 +666,6 @@ fn sweep_home(
             done,
             notes,
         );
-        y = linked(lead_next, y);
         if !more {
             continue;
         }
@@ -826,7 +830,7 @@ fn sweep_leads(
 }
 
 // How many times as long a look at a home takes as one along the leads. Nothing relies on it.
-const DENSE: usize = 32;
+const DENSE: usize = 8;
 
 // A look at x with each lead before it, by homes or along all leads.
 fn sweep_lead(
