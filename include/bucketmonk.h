@@ -1,5 +1,5 @@
 /* Bucketmonk: the proved solver for 2-pointer logic and the reader of its texts, for programs in C (from C99) and C++ (from C++11).
- * Link libbucketmonk_c.a. No heap is used; one call needs at most 320 KiB of stack, bucketmonk_output at most 400 KiB. Nothing is kept
+ * Link libbucketmonk_c.a. No heap is used; one call needs at most 256 KiB of stack, bucketmonk_output at most 360 KiB. Nothing is kept
  * between calls, so calls with separate memory may run at the same time.
  *
  * The library has the five functions that are declared first. The inline functions at the end call them and take structs in the place

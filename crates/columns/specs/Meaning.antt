@@ -34,7 +34,7 @@ use Rattle.tables.specs.Sets.{Set, termsIn, propositionsIn}
 use Rattle.pairbits.specs.Bits.{isSet, Agree, pairBits-told}
 use Rattle.marking.specs.Marks.{Adds, Room, zeros}
 use Rattle.points.specs.Places.{class, height, At, AtEither, Column}
-use Rattle.differences.specs.Settle.{Settled, one-class, apart-classes, moved}
+use Rattle.settling.specs.Settle.{Settled, one-class, apart-classes, moved}
 use Rattle.marking.specs.Classes.{otherHeight, classesDiffer, placesDiffer}
 use Rattle.differences.specs.Table.{HoldsOf, Inverse, plain, Given as TableGiven, Told}
 use Rattle.placing.specs.Filling.{level, Lifted, TermPlaces, ReadPlaces, SidePlaces}

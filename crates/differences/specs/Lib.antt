@@ -1,3 +1,2 @@
--- The pair table over columns of places: inverse dereferencing (Settle) and the table (Table).
-pub mod Settle
+-- The pair table over columns of places: the table (Table).
 pub mod Table

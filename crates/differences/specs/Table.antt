@@ -18,7 +18,7 @@ use Rattle.points.specs.Leads.{lead, Led, Leads}
 use Rattle.points.specs.Places.{class, height, AtEither, Column, Terms}
 use Rattle.marking.specs.Classes.{classesDiffer, Listed, ListedPair, otherHeight, placesDiffer, PointsDiffer, Sides, sidesDiffer, other-moved, other-parts, parts-other}
 use Rattle.marking.specs.Known.{Moving, Uniform, either-moving, uniform-adds}
-use Rattle.differences.specs.Settle.{Done, HoldsIn, InverseOf, Setting, setting, Settled, one-class, apart-classes, moved}
+use Rattle.settling.specs.Settle.{Done, HoldsIn, InverseOf, Setting, setting, Settled, one-class, apart-classes, moved}
 use Rattle.expansion.specs.Expand.{ClassSet, Expanded, HomeColumns}
 
 pub zeros-room : (n : ℕ) (old l : List ℕ) → l ≡ zeros (length old) → Room n old → Room n l
@@ -217,25 +217,26 @@ module _ (n m : ℕ) (classes heights homes points reads readHeights leads leftC
               (rw (g .class-same, h .class-same, g .height-same, h .height-same) (at-homes i j hi hj w)));
         })
 
-        row : (u v : ℕ) → u < n → v < n → class reads u < n → class reads v < n → (g : Led homes reads readHeights leads r u) → (h : Led homes reads readHeights leads r v) → lead leads (h .at) < lead leads (g .at) → isSet new (u * n + v) ≡ true → Settled (plain n classes heights reads readHeights apart) new u v
-        row u v hu hv lu lv g h o e =
-            led u v g h
-            (d .closed .rows (g .at) (g .inside) .row (h .at) (h .inside) o .settled
-            (record { left = L .below (g .at) (g .inside); right = L .below (h .at) (h .inside); left-reads = rw (g .class-same) lu; right-reads = rw (h .class-same) lv })
-            (rw (g .home-same, h .home-same) (home-bit u v hu hv e)))
+        row : (u v : ℕ) → u < n → v < n → class reads u < n → class reads v < n → home homes v ≤ home homes u → isSet new (u * n + v) ≡ true → Settled (plain n classes heights reads readHeights apart) new u v
+        row u v hu hv lu lv o e = go (L .covers u hu lu) (L .covers v hv lv)
+          where
+            go : Led homes reads readHeights leads r u → Led homes reads readHeights leads r v → Settled (plain n classes heights reads readHeights apart) new u v
+            go g h =
+                led u v g h
+                (d .closed (g .at) (h .at) (g .inside) (h .inside) (rw (g .home-same, h .home-same) o)
+                (record {
+                  left = L .below (g .at) (g .inside);
+                  right = L .below (h .at) (h .inside);
+                  left-key = rw (g .home-same) (H .below u hu);
+                  right-key = rw (h .home-same) (H .below v hv);
+                  left-reads = rw (g .class-same) lu;
+                  right-reads = rw (h .class-same) lv;
+                })
+                (rw (g .home-same, h .home-same) (home-bit u v hu hv e)))
 
         in-order : (u v : ℕ) → u < n → v < n → class reads u < n → class reads v < n → isSet new (u * n + v) ≡ true → isSet new (v * n + u) ≡ true → Settled (plain n classes heights reads readHeights apart) new u v ⊎ Settled (plain n classes heights reads readHeights apart) new v u
-        in-order u v hu hv lu lv e f = go (L .covers u hu lu) (L .covers v hv lv)
-          where
-            go : Led homes reads readHeights leads r u → Led homes reads readHeights leads r v → Settled (plain n classes heights reads readHeights apart) new u v ⊎ Settled (plain n classes heights reads readHeights apart) new v u
-            go g h =
-                ⊎-elim (λ o. inl (row u v hu hv lu lv g h o e))
-                (λ o.
-                ⊎-elim
-                (λ (s : lead leads (h .at) ≡ lead leads (g .at)). inl (one-class (sym (g .class-same) ∙ ap (λ (k : ℕ). class reads k) (sym s) ∙ h .class-same)))
-                (λ (w : lead leads (h .at) ≢ lead leads (g .at)). inr (row v u hv hu lv lu h g (omega arith) f))
-                (same-or-not (lead leads (h .at)) (lead leads (g .at))))
-                (less-or-not (lead leads (h .at)) (lead leads (g .at)))
+        in-order u v hu hv lu lv e f =
+            ⊎-elim (λ (o : home homes u < home homes v). inr (row v u hv hu lv lu (omega arith) f)) (λ (o : home homes v ≤ home homes u). inl (row u v hu hv lu lv o e)) (less-or-not (home homes u) (home homes v))
 
         pub table-told : Told n m classes heights reads readHeights leftClasses leftHeights rightClasses rightHeights apart size new
         table-told = record {

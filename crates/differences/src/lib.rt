@@ -1,9 +1,8 @@
 // The pair table of an accepted set, by the places of its terms, of what its dereferences read and of the sides of its disequalities.
-mod settling;
-
 use expansion::expand;
 use marking::base::mark_classes;
 use marking::base::mark_listed;
+use marking::notes::NOTES;
 use marking::notes::Notes;
 use marking::notes::count_points;
 use marking::notes::note_reader;
@@ -17,7 +16,6 @@ use points::places::index;
 use points::places::linked;
 use settling::settle;
 use types::MOST;
-use types::TermNumber;
 ghost use mathlib.Core.Path.{_≡_};
 ghost use Prim.Native.Nat.{_≤_};
 ghost use lib.ListN.{length};
@@ -79,14 +77,14 @@ fn mark_base(
     );
 }
 
-// Notes the readers of each home.
+// Notes which homes have readers.
 fn note_readers(count: usize, leads: &[u16], homes: &[u32], notes: &mut Notes)
     requires { ⌜ count ≤ length (now leads) ⌝ }
 {
     for k in 0..count {
         let x = linked(leads, k);
         if x < homes.len() {
-            note_reader(TermNumber(x), index(homes[x]), notes);
+            note_reader(index(homes[x]), notes);
         }
     }
 }
@@ -119,7 +117,7 @@ fn fill_table(
     requires { ⌜ Chained n (now points) (now heights) (now «class_first») (now «class_next») (now «slot_first») (now «slot_next») ⌝ }
     ensures { λ _. ⌜ Told n m (before classes) (before heights) (before reads) (before «read_heights») (before «left_classes») (before «left_heights») (before «right_classes») (before «right_heights») (before apart) (length (before pairs)) (after pairs) ⌝ }
 {
-    let mut notes = [0u32; 6144];
+    let mut notes = [0u32; NOTES];
     count_points(points, &mut notes);
     note_readers(count, leads, homes, &mut notes);
     mark_base(

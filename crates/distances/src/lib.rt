@@ -1,5 +1,5 @@
 // Pairs of points of two classes by their distance: for each bucket of distances a list of candidates for the point of the first class,
-// each by its rank in its class. Public for the crates `marking` and `differences`.
+// each by its rank in its class. Public for the crates `marking` and `settling`.
 pub mod building;
 mod counting;
 mod levels;
@@ -22,11 +22,11 @@ ghost use Rattle.distances.specs.Distances.{bucketOf, buckets, candidate
 // The buckets of distances.
 pub const BUCKETS: usize = 8192;
 
-// Where each bucket starts, and where the last one ends. Public for the crate `differences`.
+// Where each bucket starts, and where the last one ends. Public for the crate `settling`.
 pub const STARTS: usize = BUCKETS + 1;
 
-// Room for the candidates in all buckets. Public for the crate `differences`.
-pub const ENTRIES: usize = 0x12000;
+// Room for the candidates in all buckets: those of two classes of half the terms. Public for the crate `settling`.
+pub const ENTRIES: usize = 0x10000;
 
 // The bucket of a distance. Distances in arithmetic progression are spread out. Public for the crate `marking`.
 pub fn bucket(a: u32, p: u64, b: u32, q: u64) -> usize

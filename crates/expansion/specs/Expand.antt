@@ -15,7 +15,7 @@ use Rattle.points.specs.Homes.{home, Homes}
 use Rattle.buckets.specs.Buckets.{less-or-not, NextOf}
 use Rattle.points.specs.Places.{class}
 use Rattle.marking.specs.Rows.{Below, MaskPair, OwnMask}
-use Rattle.words.specs.Words.{inMask, NextCommon, one-past, Put, Rest}
+use Rattle.words.specs.Words.{Common, inMask, isOne, NextOne, one-past, Put, Rest}
 use Rattle.marking.specs.Marks.{Adds, adds-already, adds-as, adds-none, adds-then, bit-cases, One, Upto}
 
 -- homes of n terms: each is its own home
@@ -121,6 +121,19 @@ rest-below {n} {own} {same} {mask} B R = record { below = λ v e. ⊎-elim (λ h
 abbrev pub GuestPair : List ℕ → ℕ → ℕ → ℕ → ℕ → ℕ → Type 0
 GuestPair homes i v j x y = (home homes j ≡ v) × One i j x y
 
+-- the pairs of i with the terms whose homes are in word w of a mask; of those in its bits before b
+abbrev pub WordPair : List ℕ → ℕ → ℕ → ℕ → ℕ → ℕ → Type 0
+WordPair homes i w word x y = (x ≡ i) × ((home homes y / 64 ≡ w) × (isOne word (home homes y % 64) ≡ true))
+
+abbrev pub WordBelow : List ℕ → ℕ → ℕ → ℕ → ℕ → ℕ → ℕ → Type 0
+WordBelow homes i w word b x y = (home homes y % 64 < b) × WordPair homes i w word x y
+
+-- how many of the columns from 64 * w on, of n, are in word w
+pub record Width (n w r : ℕ) : Type 0 where
+  pub few : r ≤ 64
+  pub below : 64 * w + r ≤ n
+  pub inside : (b : ℕ) → b < 64 → 64 * w + b < n → b < r
+
 -- the pairs of term i; those with the terms whose home is before v; those of the homes before k; those of the other terms before k
 abbrev pub Row : ℕ → ℕ → ℕ → Type 0
 Row i x y = x ≡ i
@@ -174,11 +187,36 @@ module _ (n : ℕ) (homes : List ℕ) where
       (λ x y hx hy d. (f x y hx hy (d .0), d .1))
       (λ x y hx hy d. (g x y hx hy (d .0), d .1))
 
-  -- a loop along the row of home i: v is the next home whose bit is set, and that is the home of other terms
-  pub record RowLoop (i v : ℕ) (old new : List ℕ) : Type 0 where
-    pub done : ExpandedIn n homes (RowBelow homes i v) old new
-    pub hit : v < n → isSet new (i * n + v) ≡ true
-    pub few : v ≤ n + 64
+  -- a loop over the bits of a word that has set those of the homes before its bit b
+  pub record WordLoop (i w word b : ℕ) (old new : List ℕ) : Type 0 where
+    pub done : Adds n (WordBelow homes i w word b) old new
+    pub hit : b < 64 → isOne word b ≡ true
+
+  word-jump : {i w word b r : ℕ} {old new : List ℕ} → Adds n (WordBelow homes i w word b) old new → NextOne word b r → WordLoop i w word r old new
+  word-jump {i} {w} {word} {b} {r} a N = record {
+    done = adds-as n (WordBelow homes i w word b) (WordBelow homes i w word r) a
+        (λ x y hx hy (l, d). (omega (arith, N .after), d))
+        (λ x y hx hy (l, (e, (q, o))). (⊎-elim (λ g. g) (λ g. false-true (N .none (home homes y % 64) g l (omega arith)) o) (less-or-not (home homes y % 64) b), (e, (q, o))));
+    hit = N .hit;
+  }
+
+  pub word-first : {i w word r : ℕ} (l : List ℕ) → NextOne word 0 r → WordLoop i w word r l l
+  word-first {i} {w} {word} l N = word-jump (adds-none n (WordBelow homes i w word 0) l (λ x y d. let h = d .0 in omega arith)) N
+
+  pub word-next : {i w word b r : ℕ} {old mid new : List ℕ} → b < 64 → WordLoop i w word b old mid → Adds n (Upto n (GuestPair homes i (64 * w + b))) mid new → NextOne word (b + 1) r → WordLoop i w word r old new
+  word-next {i} {w} {word} {b} hb L A N =
+      word-jump
+      (adds-then n (WordBelow homes i w word b) (Upto n (GuestPair homes i (64 * w + b))) (WordBelow homes i w word (b + 1)) (L .done) A
+      (λ x y hx hy (l, (e, (q, o))). ⊎-elim (λ g. inl (g, (e, (q, o)))) (λ (g : home homes y % 64 ≡ b). inr (y, hy, (omega arith, (e, refl)))) (last-or-before b (home homes y % 64) l))
+      (λ x y hx hy (l, d). (omega arith, d))
+      (λ x y hx hy (j, hj, (e, o)). let z : home homes y ≡ 64 * w + b = rw (o .1) e in let m : home homes y % 64 ≡ b = omega arith in (omega arith, (o .0, (omega arith, rw m (L .hit hb))))))
+      N
+
+  pub word-done : {i w word b r : ℕ} {old new : List ℕ} → Own n homes → Width n w r → r ≤ b → WordLoop i w word b old new → Adds n (WordPair homes i w word) old new
+  word-done {i} {w} {word} {b} O W h L =
+      adds-as n (WordBelow homes i w word b) (WordPair homes i w word) (L .done)
+      (λ x y hx hy (l, d). d)
+      (λ x y hx hy (e, (q, o)). (let g = W .inside (home homes y % 64) (omega arith) (omega (arith, O .below y hy)) in omega arith, (e, (q, o))))
 
   module _ (O : Own n homes) where
     -- the bits of homes stay as they were
@@ -204,49 +242,47 @@ module _ (n : ℕ) (homes : List ℕ) where
         (λ x y hx hy d. (right x y (d .0), homes-kept S a x y hx hy (d .1)))
 
     module _ (i : ℕ) (hi : i < n) (own : home homes i ≡ i) {mask start : List ℕ} (H : Covered n homes mask i start) where
-      jump : (v r : ℕ) {new : List ℕ} → ExpandedIn n homes (RowBelow homes i v) start new → NextCommon n (i * n) new mask v r → ExpandedIn n homes (RowBelow homes i r) start new
-      jump v r {new} a N =
-          expanded-then (RowBelow homes i v) Between (RowBelow homes i r)
-          (λ x y d. ⊎-elim (λ l. inl (d .0, l)) (λ g. inr (d .0, (g, d .1))) (less-or-not (home homes y) v))
-          (λ x y d. let h = N .after in (d .0, omega (arith, d .1)))
-          (λ x y d. (d .0, d .1 .1))
+      -- one word more
+      pub row-more :
+          {w word : ℕ} {mid new : List ℕ} → ExpandedIn n homes (RowBelow homes i (64 * w)) start mid → Common (i * n) mid mask (64 * w) word →
+          Adds n (WordPair homes i w word) mid new → ExpandedIn n homes (RowBelow homes i (64 * (w + 1))) start new
+      row-more {w} {word} {mid} {new} a C A =
+          expanded-then (RowBelow homes i (64 * w)) There (RowBelow homes i (64 * (w + 1)))
+          (λ x y d. ⊎-elim (λ l. inl (d .0, l)) (λ g. inr (d .0, omega (arith, d .1))) (less-or-not (home homes y) (64 * w)))
+          (λ x y d. (d .0, omega (arith, d .1)))
+          (λ x y d. (d .0, omega (arith, d .1)))
           a
-          (adds-already n (λ x y. Between x y × HomesSet n homes new x y) new (λ x y hx hy d. rw (d .0 .0) (set y hy (d .0 .1 .0) (d .0 .1 .1) (rw (d .0 .0, own) at (d .1)))))
-        where
-          Between : ℕ → ℕ → Type 0
-          Between x y = (x ≡ i) × ((v ≤ home homes y) × (home homes y < r))
-
-          set : (y : ℕ) → y < n → v ≤ home homes y → home homes y < r → isSet new (i * n + home homes y) ≡ true → isSet new (i * n + y) ≡ true
-          set y hy g l w =
-              ⊎-elim
-              (λ (e : home homes y ≡ y). rw e at w)
-              (λ (m : home homes y ≢ y). ⊎-elim (λ k. absurd (N .none (home homes y) g l w k)) (λ k. a .kept (i * n + y) k) (H .host y hy m))
-              (same-or-not (home homes y) y)
-
-      pub row-first : {r : ℕ} → NextCommon n (i * n) start mask 0 r → RowLoop i r start start
-      row-first {r} N = record { done = jump 0 r (nothing (RowBelow homes i 0) start (λ x y d. let h = d .1 in omega arith)) N; hit = N .hit; few = N .few }
-
-      pub row-next : {v r : ℕ} {mid new : List ℕ} → v < n → RowLoop i v start mid → Adds n (Upto n (GuestPair homes i v)) mid new → NextCommon n (i * n) new mask (v + 1) r → RowLoop i r start new
-      row-next {v} {r} {mid} {new} hv L A N = record {
-        done = jump (v + 1) r
-            (expanded-then (RowBelow homes i v) There (RowBelow homes i (v + 1))
-            (λ x y d. ⊎-elim (λ l. inl (d .0, l)) (λ e. inr (d .0, e)) (last-or-before v (home homes y) (d .1)))
-            (λ x y d. (d .0, omega (arith, d .1)))
-            (λ x y d. (d .0, omega (arith, d .1)))
-            (L .done)
-            (adds-as n (Upto n (GuestPair homes i v)) (λ x y. There x y × HomesSet n homes mid x y) A
-            (λ x y hx hy (j, hj, (e, o)). let z : home homes y ≡ v = rw (o .1) e in ((o .0, z), rw (o .0, own, z) (L .hit hv)))
-            (λ x y hx hy d. (y, hy, (d .0 .1, (d .0 .0, refl))))))
-            N;
-        hit = N .hit;
-        few = N .few;
-      }
+          (adds-then n (WordPair homes i w word) (λ x y. There x y × HomesSet n homes mid x y) (λ x y. There x y × HomesSet n homes mid x y) A
+          (adds-already n (λ x y. There x y × HomesSet n homes mid x y) new (λ x y hx hy d. rw (d .0 .0) (set y hy (d .0 .1) (rw (d .0 .0, own) at (d .1)))))
+          (λ x y hx hy d. inr d)
+          (λ x y hx hy (e, (q, o)). ((e, q), rw (e, own) (rw (at-column y q) at (C .both (home homes y % 64) (omega arith) o .1 .0))))
+          (λ x y hx hy d. d))
         where
           There : ℕ → ℕ → Type 0
-          There x y = (x ≡ i) × (home homes y ≡ v)
+          There x y = (x ≡ i) × (home homes y / 64 ≡ w)
 
-      pub row-done : {v : ℕ} {new : List ℕ} → n ≤ v → RowLoop i v start new → ExpandedIn n homes (Row i) start new
-      row-done {v} h L = same-pairs (RowBelow homes i v) (Row i) (λ x y hx hy d. d .0) (λ x y hx hy d. (d, omega (arith, O .below y hy))) (L .done)
+          at-column : (y : ℕ) → home homes y / 64 ≡ w → i * n + 64 * w + home homes y % 64 ≡ i * n + home homes y
+          at-column y q = omega arith
+
+          at-number : (y : ℕ) → home homes y / 64 ≡ w → 64 * w + home homes y % 64 ≡ home homes y
+          at-number y q = omega arith
+
+          set : (y : ℕ) → y < n → home homes y / 64 ≡ w → isSet mid (i * n + home homes y) ≡ true → isSet new (i * n + y) ≡ true
+          set y hy q s =
+              ⊎-elim
+              (λ (e : home homes y ≡ y). A .kept (i * n + y) (rw e at s))
+              (λ (m : home homes y ≢ y).
+              ⊎-elim
+              (λ k. A .added i y hi hy (refl, (q, C .all (home homes y % 64) (omega arith) (rw (at-column y q) s) (rw (at-number y q) k))))
+              (λ k. A .kept (i * n + y) (a .kept (i * n + y) k))
+              (H .host y hy m))
+              (same-or-not (home homes y) y)
+
+    pub row-start : (i : ℕ) (l : List ℕ) → ExpandedIn n homes (RowBelow homes i (64 * 0)) l l
+    row-start i l = nothing (RowBelow homes i (64 * 0)) l (λ x y d. let h = d .1 in omega arith)
+
+    pub row-done : (i w : ℕ) {old new : List ℕ} → n ≤ 64 * w → ExpandedIn n homes (RowBelow homes i (64 * w)) old new → ExpandedIn n homes (Row i) old new
+    row-done i w h a = same-pairs (RowBelow homes i (64 * w)) (Row i) (λ x y hx hy d. d .0) (λ x y hx hy d. (d, omega (arith, O .below y hy))) a
 
     -- the row of home i: the terms of its class by a mask, then those whose homes are in another
     module _ (classes : List ℕ) (i : ℕ) (hi : i < n) (own : home homes i ≡ i) {reach : List ℕ} (R : Reach n classes homes i reach) where

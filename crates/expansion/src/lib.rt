@@ -8,7 +8,8 @@ use points::places::index;
 use points::places::linked;
 use types::MOST;
 use types::TermNumber;
-use words::next_common;
+use words::common;
+use words::next_one;
 use words::or_word;
 use words::put;
 use words::rest;
@@ -25,7 +26,7 @@ ghost use Rattle.points.specs.Homes.{home, Homes};
 ghost use Rattle.points.specs.Places.{class, classSlots, Terms};
 ghost use Rattle.marking.specs.Rows.{OwnMask};
 ghost use Rattle.marking.specs.Marks.{Adds, Inside, Room, Upto};
-ghost use Rattle.expansion.specs.Expand.{AllOwn, ClassRows, ClassSet, CopyPair, Covered, Expanded, ExpandedIn, Full, GuestPair, GuestRows, HomeColumns, HomeRows, Hosts, Own, Row};
+ghost use Rattle.expansion.specs.Expand.{AllOwn, ClassRows, ClassSet, CopyPair, Covered, Expanded, ExpandedIn, Full, GuestPair, GuestRows, HomeColumns, HomeRows, Hosts, Own, Row, Width, WordPair};
 ghost use Rattle.expansion.specs.Rows.{RowWord};
 
 // Whether each term is its own home.
@@ -75,6 +76,40 @@ fn set_guests(
     }
 }
 
+// How many columns of a row are in word w.
+fn width(n: usize, w: usize) -> usize
+    requires { ⌜ 64 * w < n ⌝ }
+    ensures { λ r. ⌜ Width n w r ⌝ }
+{
+    let left = n - 64 * w;
+    if left < 64 {
+        return left;
+    }
+    64
+}
+
+// The pairs of i with the terms whose homes are in word w of a mask.
+fn expand_word(
+    n: usize,
+    i: TermNumber,
+    w: usize,
+    word: u64,
+    homes: &[u32],
+    first: &[u16],
+    next: &[u16],
+    table: &mut [u8],
+)
+    requires { ⌜ Inside n (i .0) (64 * w) × (Own n (now homes) × (Chains n classSlots (now homes) (now first) (now next) × Room n (now table))) ⌝ }
+    ensures { λ _. ⌜ Adds n (WordPair (before homes) (i .0) w word) (before table) (after table) ⌝ }
+{
+    let end = width(n, w);
+    let mut b = next_one(word, 0);
+    while b < end {
+        set_guests(n, i, 64 * w + b, homes, first, next, table);
+        b = next_one(word, b + 1);
+    }
+}
+
 // The pairs of home i with the terms whose homes are in the mask.
 fn expand_others(
     n: usize,
@@ -90,10 +125,11 @@ fn expand_others(
     ensures { λ _. ⌜ ExpandedIn n (before homes) (Row (i .0)) (before table) (after table) ⌝ }
 {
     let start = i.0 * n;
-    let mut v = next_common(n, start, table, others, 0);
-    while v < n {
-        set_guests(n, i, v, homes, first, next, table);
-        v = next_common(n, start, table, others, v + 1);
+    let mut w = 0;
+    while 64 * w < n {
+        let word = common(start, table, others, 64 * w);
+        expand_word(n, i, w, word, homes, first, next, table);
+        w += 1;
     }
 }
 

@@ -24,7 +24,6 @@ use Rattle.unionfind.specs.declared.Root.{Root}
 use Rattle.unionfind.specs.declared.Joining.{Joining}
 use Rattle.unionfind.specs.Forest.{Links, flat, Found, Equated}
 use Rattle.lastlook.specs.Addresses.{SameAddress}
-use Rattle.joins.specs.declared.Met.{Met}
 use Rattle.joins.specs.Labels.{Labels, Unchanged, unchanged-labels, unchanged-then, joined-labels}
 
 -- the address that a dereference reads fits
@@ -111,12 +110,6 @@ module _ (n : ℕ) (rec : ℕ → TermRecord) where
     pub together : P .block x ≡ P .block y
     pub unequal : Holds P x (pos 0) y → ⊥
 
-  -- what a test of two dereferences leaves: they are joined where they read one address and are in two classes
-  pub data Meeting (p0 : List ℕ) (o0 : List ℤ) (p : List ℕ) (o : List ℤ) (x y : ℕ) : Met → Type 0 where
-    as-before : Unchanged p0 o0 p o → Meeting p0 o0 p o x y Met.Nothing
-    joined : Links p o → length p ≡ length p0 → SameAddress rec (flat p0 o0) x y → Joined n (flat p0 o0) (flat p o) x (pos 0) y → Meeting p0 o0 p o x y Met.Joined
-    clashed : Unchanged p0 o0 p o → Clash (flat p0 o0) x y → Meeting p0 o0 p o x y Met.Clashed
-
   -- x and y were found to read one address, by looks that left the labelling as it was
   pub record Tested (p0 : List ℕ) (o0 : List ℤ) (p : List ℕ) (o : List ℤ) (x y : ℕ) : Type 0 where
     pub unchanged : Unchanged p0 o0 p o
@@ -141,22 +134,6 @@ module _ (n : ℕ) (rec : ℕ → TermRecord) where
         };
       }
 
-  -- what the join of two such leaves
-  module _ {p0 p1 p2 : List ℕ} {o0 o1 o2 : List ℤ} {x y : ℕ} (L : Labels n p0 o0) (hx : x < n) (hy : y < n) (T : Tested p0 o0 p1 o1 x y) where
-    pub met-joined : Equated p1 o1 p2 o2 x (pos 0) y Joining.Joined → Meeting p0 o0 p2 o2 x y Met.Joined
-    met-joined (Equated.joined K l J) =
-        joined K (l ∙ T .unchanged .long) (T .same) (rw (T .unchanged .long ∙ L .count, T .unchanged .same) at J)
-
-    pub met-held : Equated p1 o1 p2 o2 x (pos 0) y Joining.Held → Meeting p0 o0 p2 o2 x y Met.Nothing
-    met-held (Equated.held K l s h) = as-before (record { links = K; same = s ∙ T .unchanged .same; long = l ∙ T .unchanged .long })
-
-    pub met-clashed : Equated p1 o1 p2 o2 x (pos 0) y Joining.Clashed → Meeting p0 o0 p2 o2 x y Met.Clashed
-    met-clashed (Equated.clashed K l s b m) =
-        let u = T .unchanged .same in
-        clashed
-        (record { links = K; same = s ∙ u; long = l ∙ T .unchanged .long })
-        (record { below-x = hx; below-y = hy; same = T .same; together = rw u at b; unequal = λ h. rw u at m (h .at-offset) })
-
   -- what joins leave, with two dereferences that clash where they end in false
   pub data Chased (p0 : List ℕ) (o0 : List ℤ) (p : List ℕ) (o : List ℤ) : Bool → Type 0 where
     going : Chain (flat p0 o0) (flat p o) → Labels n p o → length p ≡ length p0 → Chased p0 o0 p o true
@@ -166,20 +143,28 @@ module _ (n : ℕ) (rec : ℕ → TermRecord) where
     pub unchanged-chased : Labels n p1 o1 → Chain (flat p0 o0) (flat p1 o1) → length p1 ≡ length p0 → Unchanged p1 o1 p2 o2 → Chased p0 o0 p2 o2 true
     unchanged-chased L c l U = going (rw (U .same) c) (unchanged-labels U L) (U .long ∙ l)
 
-    -- one more test of two dereferences
-    pub meeting-going : {x y : ℕ} → x < n → y < n → Chased p0 o0 p1 o1 true → Meeting p1 o1 p2 o2 x y Met.Nothing → Chased p0 o0 p2 o2 true
-    meeting-going hx hy (going c L l) (as-before U) = unchanged-chased L c l U
-
-    pub meeting-joined : {x y : ℕ} → x < n → y < n → Chased p0 o0 p1 o1 true → Meeting p1 o1 p2 o2 x y Met.Joined → Chased p0 o0 p2 o2 true
-    meeting-joined hx hy (going c L l) (joined K k s J) = going (more c hx hy s J) (joined-labels K k hx hy within-zero J L) (k ∙ l)
-
-    pub meeting-clashed : {x y : ℕ} → Chased p0 o0 p1 o1 true → Meeting p1 o1 p2 o2 x y Met.Clashed → Chased p0 o0 p2 o2 false
-    meeting-clashed {x} {y} (going c L l) (clashed U C) = clash {x = x} {y = y} (rw (U .same) c) (U .long ∙ l) (rw (U .same) C)
-
     -- one run after another
     pub chased-then : {b : Bool} → Chased p0 o0 p1 o1 true → Chased p1 o1 p2 o2 b → Chased p0 o0 p2 o2 b
     chased-then (going c L l) (going d M m) = going (chain-append c d) M (m ∙ l)
     chased-then (going c L l) (clash d m C) = clash (chain-append c d) (m ∙ l) C
+
+  -- what the join of two dereferences of one address leaves
+  module _ {p0 p1 p2 : List ℕ} {o0 o1 o2 : List ℤ} {x y : ℕ} (L : Labels n p0 o0) (hx : x < n) (hy : y < n) (T : Tested p0 o0 p1 o1 x y) where
+    pub merged-joined : Equated p1 o1 p2 o2 x (pos 0) y Joining.Joined → Chased p0 o0 p2 o2 true
+    merged-joined (Equated.joined K l J) =
+        let k = l ∙ T .unchanged .long in
+        let M = rw (T .unchanged .long ∙ L .count, T .unchanged .same) at J in
+        going (more start hx hy (T .same) M) (joined-labels K k hx hy within-zero M L) k
+
+    pub merged-held : Equated p1 o1 p2 o2 x (pos 0) y Joining.Held → Chased p0 o0 p2 o2 true
+    merged-held (Equated.held K l s h) = unchanged-chased L start refl (unchanged-then (T .unchanged) (record { links = K; same = s; long = l }))
+
+    pub merged-clashed : Equated p1 o1 p2 o2 x (pos 0) y Joining.Clashed → Chased p0 o0 p2 o2 false
+    merged-clashed (Equated.clashed K l s b m) =
+        let u = T .unchanged .same in
+        let e = s ∙ u in
+        clash {x = x} {y = y} (rw e start) (l ∙ T .unchanged .long)
+        (rw e (record { below-x = hx; below-y = hy; same = T .same; together = rw u at b; unequal = λ h. rw u at m (h .at-offset) }))
 
   pub chased-start : {p : List ℕ} {o : List ℤ} → Labels n p o → Chased p o p o true
   chased-start L = going start L refl

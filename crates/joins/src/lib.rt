@@ -5,35 +5,28 @@ use offsets::sum;
 use tables::TermRow;
 use tables::term_at;
 use types::DEREF;
-use types::MOST;
 use types::TermNumber;
 use types::TermRecord;
 use types::index;
 use unionfind::Joining;
 use unionfind::Root;
 use unionfind::find;
-use unionfind::join;
-use uselists::address_key;
+use unionfind::join_found;
+use uselists::Keys;
+use uselists::Notes;
 use uselists::join_uses;
-use uselists::probe;
-use uselists::set_slot;
-use uselists::slot;
+use uselists::look_up;
 ghost use Prim.Native.Nat.{_<_};
+ghost use lib.IntN.{pos};
 ghost use lib.ListN.{length};
 ghost use Rattle.lists.specs.Lent.{before, after};
 ghost use Rattle.integers.specs.Within.{Within};
 ghost use Rattle.tables.specs.Limits.{offsetLimit};
 ghost use Rattle.tables.specs.Rows.{termAt};
 ghost use Rattle.tables.specs.TermTable.{AcceptedTerms};
-ghost use Rattle.joins.specs.Labels.{Labels, Unchanged};
-ghost use Rattle.joins.specs.Meeting.{Addressed, Reads, Meeting, Chased};
-
-// What a test of two dereferences found: nothing to do, two classes that were joined, or one class at two offsets.
-pub(crate) enum Met {
-    Nothing,
-    Joined,
-    Clashed,
-}
+ghost use Rattle.unionfind.specs.Forest.{Equated};
+ghost use Rattle.joins.specs.Labels.{Labels};
+ghost use Rattle.joins.specs.Meeting.{Addressed, Reads, Chased};
 
 // The class and the address that a dereference reads.
 fn address(parents: &mut [u32], offsets: &mut [i64], r: TermRecord) -> Root
@@ -71,100 +64,31 @@ fn reads(
     is_same(at.offset, other.offset)
 }
 
-// Joins x and y, if they are dereferences of one address in two classes.
-fn meet(
-    terms: &[TermRow],
-    parents: &mut [u32],
-    offsets: &mut [i64],
-    x: TermNumber,
-    y: TermNumber,
-) -> Met
-    requires { ⌜ AcceptedTerms (length (now terms)) (termAt (now terms)) × Labels (length (now terms)) (now parents) (now offsets) ⌝ }
-    requires { ⌜ (x .0 < length (now terms)) × (y .0 < length (now terms)) ⌝ }
-    ensures { λ r. ⌜ Meeting (length (before terms)) (termAt (before terms)) (before parents) (before offsets) (after parents) (after offsets) (x .0) (y .0) r ⌝ }
-{
-    let r = term_at(terms, x);
-    if r.kind != DEREF {
-        return Met::Nothing;
-    }
-    let at = address(parents, offsets, r);
-    if !reads(terms, parents, offsets, y, at) {
-        return Met::Nothing;
-    }
-    match join(parents, offsets, x, 0, y) {
-        Joining::Joined => Met::Joined,
-        Joining::Held => Met::Nothing,
-        Joining::Clashed => Met::Clashed,
-    }
-}
-
-// The slots of the table that are tried for an address.
-const TRIES: usize = MOST;
-
-// One more than a dereference in the table that reads this address; 0 if none is found, and then x is put there.
-fn lookup(
-    terms: &[TermRow],
-    parents: &mut [u32],
-    offsets: &mut [i64],
-    notes: &mut [u16],
-    key: u64,
-    x: TermNumber,
-    at: Root,
-) -> usize
-    requires { ⌜ AcceptedTerms (length (now terms)) (termAt (now terms)) × Labels (length (now terms)) (now parents) (now offsets) ⌝ }
-    ensures { λ _. ⌜ Unchanged (before parents) (before offsets) (after parents) (after offsets) ⌝ }
-{
-    for i in 0..TRIES {
-        let s = probe(key, i);
-        let found = slot(notes, s);
-        if found == 0 {
-            set_slot(notes, s, x.0);
-            return 0;
-        }
-        let y = found - 1;
-        if terms.len() <= y {
-            return 0;
-        }
-        if reads(terms, parents, offsets, TermNumber(y), at) {
-            return found;
-        }
-    }
-    0
-}
-
-// Joins x and y, if they are dereferences of one address in two classes, and their uses; tells whether they do not clash.
+// Joins x and y, and their uses.
 fn merge(
-    terms: &[TermRow],
     parents: &mut [u32],
     offsets: &mut [i64],
-    notes: &mut [u16],
-    shifts: &mut [u64],
+    notes: &mut Notes,
+    keys: &mut Keys,
     x: TermNumber,
     y: TermNumber,
-) -> bool
-    requires { ⌜ AcceptedTerms (length (now terms)) (termAt (now terms)) × Labels (length (now terms)) (now parents) (now offsets) ⌝ }
-    requires { ⌜ (x .0 < length (now terms)) × (y .0 < length (now terms)) ⌝ }
-    ensures { λ r. ⌜ Chased (length (before terms)) (termAt (before terms)) (before parents) (before offsets) (after parents) (after offsets) r ⌝ }
+) -> Joining
+    requires { ⌜ Labels (length (now parents)) (now parents) (now offsets) × ((x .0 < length (now parents)) × (y .0 < length (now parents))) ⌝ }
+    ensures { λ r. ⌜ Equated (before parents) (before offsets) (after parents) (after offsets) (x .0) (pos 0) (y .0) r ⌝ }
 {
     let a = find(parents, offsets, x);
     let b = find(parents, offsets, y);
-    match meet(terms, parents, offsets, x, y) {
-        Met::Nothing => true,
-        Met::Joined => {
-            join_uses(notes, shifts, a, b);
-            true
-        }
-        Met::Clashed => false,
-    }
+    join_uses(notes, keys, a, b);
+    join_found(parents, offsets, a, 0, b)
 }
 
-// Looks x up, and joins it with what is found there; tells whether they do not clash.
+// Looks x up by the address that it reads, and joins it with what is found there; tells whether they do not clash.
 pub fn step(
     terms: &[TermRow],
     parents: &mut [u32],
     offsets: &mut [i64],
-    notes: &mut [u16],
-    shifts: &mut [u64],
+    notes: &mut Notes,
+    keys: &mut Keys,
     x: TermNumber,
 ) -> bool
     requires { ⌜ AcceptedTerms (length (now terms)) (termAt (now terms)) × (Labels (length (now terms)) (now parents) (now offsets) × (x .0 < length (now terms))) ⌝ }
@@ -175,14 +99,17 @@ pub fn step(
         return true;
     }
     let at = address(parents, offsets, r);
-    let key = address_key(notes, shifts, at);
-    let found = lookup(terms, parents, offsets, notes, key, x, at);
-    if found == 0 {
+    let found = look_up(notes, keys, at, x.0);
+    if (found == 0) | (terms.len() < found) {
         return true;
     }
-    let y = found - 1;
-    if terms.len() <= y {
+    let y = TermNumber(found - 1);
+    if !reads(terms, parents, offsets, y, at) {
         return true;
     }
-    merge(terms, parents, offsets, notes, shifts, x, TermNumber(y))
+    match merge(parents, offsets, notes, keys, x, y) {
+        Joining::Joined => true,
+        Joining::Held => true,
+        Joining::Clashed => false,
+    }
 }

@@ -1,16 +1,19 @@
 -- The addresses that dereferences read, and the look for two of one address with different labels.
-use Prim.Native.Nat.{ℕ, zero, suc, _+_, _*_, _/_, _%_, _^_, _<_, _≤_}
+use Prim.Native.Nat.{ℕ, zero, suc, _+_, _-_, _*_, _/_, _%_, _^_, _<_, _≤_}
 use mathlib.Core.Path.{_≡_, refl, sym, _∙_}
-use mathlib.Core.Bool.{Bool, true, false, not}
+use mathlib.Core.Bool.{Bool, true, false, not, _||_}
 use mathlib.Core.List.{List}
 use native.Mathlib.Omega.{arith}
 use native.Mathlib.Nat.{mul-le-mul, div-lt-iff-lt-mul, mod-lt}
 use lib.Arith.{digits-lt, digits-div, digits-mod}
+use lib.Dec.{eqb, ltb}
 use lib.IntN.{ℤ, pos, _+ℤ_}
 use lib.ListN.{length, getD}
 use mir.Syntax.{w64}
 use mir.Val.{SFits, toZ, ofZ}
 use mir.ValLaws.{toZ-ofZ}
+use borrow.Author.Tests.{eqb-false, ltb-false}
+use Rattle.lists.specs.Booleans.{or-false}
 use Rattle.integers.specs.Compare.{eqℤ, eqℤ-true, eqℤ-false}
 use Rattle.integers.specs.Linear.{linear, value, ‹_›, #_, _⊕_}
 use Rattle.rules.specs.Assignments.{Placement, Holds}
@@ -59,6 +62,11 @@ pub data Unequal (rec : ℕ → TermRecord) (P : Placement) (x y : ℕ) : Bool �
   unequal : SameAddress rec P x y → (Holds P x (pos 0) y → ⊥) → Unequal rec P x y true
   equal : (SameAddress rec P x y → Holds P x (pos 0) y) → Unequal rec P x y false
 
+-- what a test whether a note, one more than a term, names one with the label of x finds
+pub data Alike (n : ℕ) (P : Placement) (reader x : ℕ) : Bool → Type 0 where
+  alike : 0 < reader → reader ≤ n → Holds P (reader - 1) (pos 0) x → Alike n P reader x true
+  not-told : Alike n P reader x false
+
 -- what a look at all dereferences finds
 pub data Looked (n : ℕ) (rec : ℕ → TermRecord) (P : Placement) : Look → Type 0 where
   pair : {x y : TermNumber} → x .0 < n → y .0 < n → SameAddress rec P (x .0) (y .0) → (Holds P (x .0) (pos 0) (y .0) → ⊥) → Looked n rec P (Look.Pair x y)
@@ -70,6 +78,12 @@ signed-same a b f g = rw (toZ-ofZ w64 a f, toZ-ofZ w64 b g)
 
 pub zero-plus : (z : ℤ) → pos 0 +ℤ z ≡ z
 zero-plus z = omega (linear, value (# 0 ⊕ ‹ z ›))
+
+-- one more than the number of one of n terms
+pub names-one : (n found : ℕ) → (eqb found 0 || ltb n found) ≡ false → (0 < found) × (found ≤ n)
+names-one n found e =
+    let r = or-false (eqb found 0) (ltb n found) e in
+    (omega (arith, eqb-false found 0 (r .0)), omega (arith, ltb-false n found (r .1)))
 
 module _ (P : Placement) where
   pub itself : (x : ℕ) → Holds P x (pos 0) x
@@ -129,6 +143,15 @@ module _ {rec : ℕ → TermRecord} {P : Placement} where
       (λ x y hx hy.
       rw (digits-div x hy, digits-mod x hy) at (f (x * n + y) (digits-lt hx hy)))
 
+pub alike-by :
+    {n : ℕ} {P : Placement} {reader x : ℕ} →
+    (0 < reader) × (reader ≤ n) →
+    (r : Bool) →
+    r ≡ holds P (comparison (reader - 1) (pos 0) x) →
+    Alike n P reader x r
+alike-by {P = P} {reader = reader} {x = x} h true e = alike (h .0) (h .1) (holds-true P (comparison (reader - 1) (pos 0) x) (sym e))
+alike-by h false e = not-told
+
 -- pair k of n × n terms
 pub record PairBelow (n k : ℕ) : Type 0 where
   pub some : 0 < n
@@ -157,3 +180,7 @@ module _ {terms : List Row} {reps : List ℕ} {offs : List ℤ} (L : Labelled te
 
   pub class-below : getD reps (termAt terms x .number) 0 < most
   class-below = omega (arith, L .few, L .below (termAt terms x .number) inner-below)
+
+  -- its class can be read, and is the place of a note
+  pub class-read : ((x < length terms) × (termAt terms x .number < length reps)) × (getD reps (termAt terms x .number) 0 < most)
+  class-read = ((h, omega (arith, inner-below, L .reps-length)), class-below)

@@ -1,6 +1,6 @@
 -- Dereferences in the order of words that are made of their classes and addresses, and what the order shows.
 use Prim.Native.Nat.{ℕ, zero, suc, _+_, _-_, _*_, _/_, _%_, _^_, _<_, _≤_}
-use mathlib.Core.Path.{_≡_, refl, sym, _∙_}
+use mathlib.Core.Path.{_≡_, refl, sym, _∙_, ap}
 use mathlib.Core.Bool.{Bool, true, false}
 use mathlib.Core.List.{List}
 use native.Mathlib.Omega.{arith}
@@ -15,11 +15,13 @@ use Rattle.types.specs.declared.TermNumber.{TermNumber}
 use Rattle.tables.specs.Records.{TermRecord, derefKind}
 use Rattle.lastlook.specs.declared.Look.{Look}
 use Rattle.lastlook.specs.declared.Neighbours.{Neighbours}
-use Rattle.lastlook.specs.Addresses.{classOf, addressOf, SameAddress, Unequal, Looked, closed, unequal-pair, itself, turned, onward, swapped}
+use Rattle.lastlook.specs.Addresses.{classOf, addressOf, SameAddress, Unequal, Alike, alike, Looked, closed, unequal-pair, itself, turned, onward, swapped}
 
--- one number for a class and an address
+-- one number for a class and an address: the lower half of the address spread over 32 bits, the class, and of the upper half 12 bits
 unfoldable pub keyOf : ℕ → ℤ → ℕ
-keyOf class address = class * 2 ^ 44 + ofZ w64 address % 2 ^ 44
+keyOf class address =
+    let a = ofZ w64 address in
+    ((a % 2 ^ 32 * 2654435761 + class * 2246822519) % 2 ^ 32 * 512 + class) * 4096 + a / 2 ^ 32 % 4096
 
 -- the word of the dereference x: its key, and x in the lowest 9 bits
 abbrev pub wordOf : (ℕ → TermRecord) → Placement → ℕ → ℕ
@@ -46,13 +48,22 @@ pub record Stands (words : List ℕ) (count w : ℕ) : Type 0 where
   pub below : place < count
   pub is : getD words place 0 ≡ w
 
--- the words of the dereferences among n terms are
-abbrev pub AllStand : ℕ → (ℕ → TermRecord) → Placement → List ℕ → ℕ → Type 0
-AllStand n rec P words count = (x : ℕ) → x < n → rec x .kind ≡ derefKind → Stands words count (wordOf rec P x)
+-- what is noted for the class that x reads
+abbrev pub readerOf : (ℕ → TermRecord) → Placement → List ℕ → ℕ → ℕ
+readerOf rec P readers x = getD readers (classOf rec P x) 0
 
-pub data Standing (n : ℕ) (rec : ℕ → TermRecord) (P : Placement) (words : List ℕ) (count : ℕ) : Bool → Type 0 where
-  all-stand : AllStand n rec P words count → Standing n rec P words count true
-  not-all : Standing n rec P words count false
+-- x has the label of the reader noted for its class, or the class is noted to have many and the word of x is among the first
+pub data Shown (n : ℕ) (rec : ℕ → TermRecord) (P : Placement) (readers words : List ℕ) (count x : ℕ) : Type 0 where
+  as-reader : 0 < readerOf rec P readers x → readerOf rec P readers x ≤ n → Holds P (readerOf rec P readers x - 1) (pos 0) x → Shown n rec P readers words count x
+  listed : readerOf rec P readers x ≡ 513 → Stands words count (wordOf rec P x) → Shown n rec P readers words count x
+
+-- each of n terms that is a dereference is shown so
+abbrev pub AllShown : ℕ → (ℕ → TermRecord) → Placement → List ℕ → List ℕ → ℕ → Type 0
+AllShown n rec P readers words count = (x : ℕ) → x < n → rec x .kind ≡ derefKind → Shown n rec P readers words count x
+
+pub data Standing (n : ℕ) (rec : ℕ → TermRecord) (P : Placement) (readers words : List ℕ) (count : ℕ) : Bool → Type 0 where
+  all-stand : AllShown n rec P readers words count → Standing n rec P readers words count true
+  not-all : Standing n rec P readers words count false
 
 module _ {n : ℕ} {rec : ℕ → TermRecord} {P : Placement} {Right : Type 0} where
   pub tested-right : Tested n rec P Right Neighbours.Agree → Right
@@ -64,8 +75,17 @@ module _ {n : ℕ} {rec : ℕ → TermRecord} {P : Placement} {Right : Type 0} w
   pub tested-as : {x y : TermNumber} (Other : Type 0) → Tested n rec P Right (Neighbours.Pair x y) → Tested n rec P Other (Neighbours.Pair x y)
   tested-as Other (unequal-found hx hy u) = unequal-found hx hy u
 
-pub standing-all : {n : ℕ} {rec : ℕ → TermRecord} {P : Placement} {words : List ℕ} {count : ℕ} → Standing n rec P words count true → AllStand n rec P words count
+pub standing-all : {n : ℕ} {rec : ℕ → TermRecord} {P : Placement} {readers words : List ℕ} {count : ℕ} → Standing n rec P readers words count true → AllShown n rec P readers words count
 standing-all (all-stand f) = f
+
+pub alike-shown :
+    {n m : ℕ} {rec : ℕ → TermRecord} {P : Placement} {readers words : List ℕ} {count x r : ℕ} →
+    m ≡ n →
+    r ≡ readerOf rec P readers x →
+    Alike m P r x true →
+    Shown n rec P readers words count x
+alike-shown {P = P} {x = x} l e (alike a b h) =
+    as-reader (omega (arith, a, e)) (omega (arith, b, e, l)) (rw e at h)
 
 module _ {P : Placement} where
   pub follows-itself : (a : ℕ) → Follows P a a
@@ -89,7 +109,7 @@ module _ {P : Placement} where
       go f true e = f (leb-true i j e)
       go f false e = let m : i ≡ suc j = omega (arith, leb-false i j e) in rw m (follows-itself (getD words (suc j) 0))
 
-module _ {n : ℕ} {rec : ℕ → TermRecord} {P : Placement} (words : List ℕ) (count : ℕ) (few : n ≤ 512) (O : Ordered P words count) (A : AllStand n rec P words count) where
+module _ {n : ℕ} {rec : ℕ → TermRecord} {P : Placement} (readers words : List ℕ) (count : ℕ) (few : n ≤ 512) (O : Ordered P words count) (A : AllShown n rec P readers words count) where
   -- x no later than y in the order
   agree-forward :
       (x y : ℕ) →
@@ -110,20 +130,35 @@ module _ {n : ℕ} {rec : ℕ → TermRecord} {P : Placement} (words : List ℕ)
       let dy : (ky * 512 + y) / 512 ≡ ky = omega arith in
       rw (mx, my) at (f .agrees (dx ∙ e ∙ sym dy))
 
-  -- an order that holds every dereference shows that there is no pair
+  agree-listed :
+      (x y : ℕ) →
+      x < n →
+      y < n →
+      SameAddress rec P x y →
+      (s : Stands words count (wordOf rec P x)) (t : Stands words count (wordOf rec P y)) (b : Bool) →
+      leb (s .place) (t .place) ≡ b →
+      Holds P x (pos 0) y
+  agree-listed x y hx hy m s t true e = agree-forward x y hx hy s t (leb-true (s .place) (t .place) e) m
+  agree-listed x y hx hy m s t false e = turned P (agree-forward y x hy hx t s (omega (arith, leb-false (s .place) (t .place) e)) (swapped m))
+
+  -- dereferences of one class are both like its reader, or both listed
+  agree-shown :
+      (x y : ℕ) →
+      x < n →
+      y < n →
+      SameAddress rec P x y →
+      readerOf rec P readers x ≡ readerOf rec P readers y →
+      Shown n rec P readers words count x →
+      Shown n rec P readers words count y →
+      Holds P x (pos 0) y
+  agree-shown x y hx hy m e (as-reader a b h) (as-reader c d k) =
+      let j : Holds P (readerOf rec P readers x - 1) (pos 0) y = rw e k in
+      onward P (turned P h) j
+  agree-shown x y hx hy m e (as-reader a b h) (listed f t) = absurd (omega (arith, b, few, e, f))
+  agree-shown x y hx hy m e (listed f s) (as-reader c d k) = absurd (omega (arith, d, few, e, f))
+  agree-shown x y hx hy m e (listed f s) (listed g t) = agree-listed x y hx hy m s t (leb (s .place) (t .place)) refl
+
+  -- an order that holds every dereference that is not like the reader of its class shows that there is no pair
   pub closed-by-order : Looked n rec P Look.Closed
   closed-by-order = closed (λ x y hx hy m.
-      let s = A x hx (m .deref-x) in
-      let t = A y hy (m .deref-y) in
-      go x y hx hy m s t (leb (s .place) (t .place)) refl)
-    where
-      go :
-          (x y : ℕ) →
-          x < n →
-          y < n →
-          SameAddress rec P x y →
-          (s : Stands words count (wordOf rec P x)) (t : Stands words count (wordOf rec P y)) (b : Bool) →
-          leb (s .place) (t .place) ≡ b →
-          Holds P x (pos 0) y
-      go x y hx hy m s t true e = agree-forward x y hx hy s t (leb-true (s .place) (t .place) e) m
-      go x y hx hy m s t false e = turned P (agree-forward y x hy hx t s (omega (arith, leb-false (s .place) (t .place) e)) (swapped m))
+      agree-shown x y hx hy m (ap (λ (k : ℕ). getD readers k 0) (m .block)) (A x hx (m .deref-x)) (A y hy (m .deref-y)))

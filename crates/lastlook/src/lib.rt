@@ -25,7 +25,7 @@ ghost use Rattle.closure.specs.Verdict.{holds};
 ghost use Rattle.tables.specs.Limits.{most};
 ghost use Rattle.tables.specs.Records.{derefKind};
 ghost use Rattle.tables.specs.Rows.{termAt};
-ghost use Rattle.lastlook.specs.Addresses.{Labelled, addressOf, Meeting, Unequal, Looked};
+ghost use Rattle.lastlook.specs.Addresses.{Labelled, addressOf, Meeting, Unequal, Alike, Looked};
 ghost use Rattle.lastlook.specs.Order.{keyOf, wordOf, Tested, Follows, Ordered, Standing};
 
 // A word is a key times this, and the number of a term, which is below it.
@@ -44,8 +44,8 @@ enum Neighbours {
     Unordered,
 }
 
-// The room that an address has in a key: addresses are within 2^42.
-const ROOM: u64 = 0x1000_0000_0000;
+// Numbers of 32 bits.
+const WORD: u64 = 0x1_0000_0000;
 
 fn is_deref(terms: &[TermRow], x: TermNumber) -> bool
     requires { ⌜ x .0 < length (now terms) ⌝ }
@@ -131,12 +131,16 @@ fn is_unequal(
     !same_label(representatives, offsets, x, y)
 }
 
-// One number for a class and an address: equal for equal ones, and for no others.
+// One number for a class and an address, which is within 2^42: equal for equal ones, and for no others. Its highest bits, by which words
+// are sorted first, are spread by factors.
 fn key(class: u32, address: i64) -> u64
     requires { ⌜ class < most ⌝ }
     ensures { λ r. ⌜ (r ≡ keyOf class address) × (r < 2 ^ 53) ⌝ }
 {
-    class as u64 * ROOM + bits(address) % ROOM
+    let c = class as u64;
+    let a = bits(address);
+    let spread = (a % WORD * 2654435761 + c * 2246822519) % WORD;
+    (spread * NUMBERS + c) * 4096 + a / WORD % 4096
 }
 
 // The word of the dereference x: its key, and x in the lowest 9 bits.
@@ -152,11 +156,65 @@ fn word(terms: &[TermRow], representatives: &[u32], offsets: &[i64], x: TermNumb
     k * NUMBERS + x.0 as u64
 }
 
-// Lists the words of the dereferences, and returns how many there are.
+// For each class one more than a dereference that reads it, where all that do have its label; else MANY. 0 where none does.
+type Readers = [usize; MOST];
+
+const MANY: usize = MOST + 1;
+
+// What is noted for the class that the dereference x reads.
+fn reader_of(terms: &[TermRow], representatives: &[u32], readers: &Readers, x: TermNumber) -> usize
+    requires { ⌜ (x .0 < length (now terms)) × (termAt (now terms) (x .0) .number < length (now representatives)) ⌝ }
+    requires { ⌜ getD (now representatives) (termAt (now terms) (x .0) .number) 0 < most ⌝ }
+    ensures { λ r. ⌜ r ≡ getD (before readers) (getD (before representatives) (termAt (before terms) (x .0) .number) 0) 0 ⌝ }
+{
+    let class = class_of(terms, representatives, x) as usize;
+    readers[class]
+}
+
+// Whether a note names a term with the label of x.
+fn is_alike(representatives: &[u32], offsets: &[i64], reader: usize, x: TermNumber) -> bool
+    requires { ⌜ (length (now offsets) ≡ length (now representatives)) × (x .0 < length (now representatives)) ⌝ }
+    ensures { λ r. ⌜ Alike (length (before representatives)) (view (before representatives) (before offsets)) reader (x .0) r ⌝ }
+{
+    if (reader == 0) | (representatives.len() < reader) {
+        return false;
+    }
+    same_label(representatives, offsets, TermNumber(reader - 1), x)
+}
+
+// What is noted for a class that x reads, too.
+fn note_reader(representatives: &[u32], offsets: &[i64], reader: usize, x: TermNumber) -> usize
+    requires { ⌜ (length (now offsets) ≡ length (now representatives)) × (x .0 < length (now representatives)) ⌝ }
+{
+    if reader == 0 {
+        return x.0 + 1;
+    }
+    if is_alike(representatives, offsets, reader, x) {
+        return reader;
+    }
+    MANY
+}
+
+// Notes the readers of each class.
+fn note_readers(terms: &[TermRow], representatives: &[u32], offsets: &[i64], readers: &mut Readers)
+    requires { ⌜ Labelled (now terms) (now representatives) (now offsets) ⌝ }
+{
+    for i in 0..terms.len() {
+        let x = TermNumber(i);
+        if !is_deref(terms, x) {
+            continue;
+        }
+        let class = class_of(terms, representatives, x) as usize;
+        readers[class] = note_reader(representatives, offsets, readers[class], x);
+    }
+}
+
+// Lists the words of the dereferences that read a class noted as MANY, and returns how many there are.
 fn list_words(
     terms: &[TermRow],
     representatives: &[u32],
     offsets: &[i64],
+    readers: &Readers,
     words: &mut Words,
 ) -> usize
     requires { ⌜ Labelled (now terms) (now representatives) (now offsets) ⌝ }
@@ -165,6 +223,9 @@ fn list_words(
     let mut count = 0;
     for x in 0..terms.len() {
         if !is_deref(terms, TermNumber(x)) {
+            continue;
+        }
+        if reader_of(terms, representatives, readers, TermNumber(x)) != MANY {
             continue;
         }
         words[count] = word(terms, representatives, offsets, TermNumber(x));
@@ -183,21 +244,29 @@ fn note_places(words: &Words, count: usize, places: &mut [usize; MOST])
     }
 }
 
-// Whether each dereference's word stands at its noted place.
+// Whether each dereference has the label of the reader noted for its class; or that is MANY, and its word stands at its noted place.
 fn all_stand(
     terms: &[TermRow],
     representatives: &[u32],
     offsets: &[i64],
+    readers: &Readers,
     words: &Words,
     count: usize,
     places: &[usize; MOST],
 ) -> bool
     requires { ⌜ Labelled (now terms) (now representatives) (now offsets) × (count ≤ most) ⌝ }
-    ensures { λ r. ⌜ Standing (length (before terms)) (termAt (before terms)) (view (before representatives) (before offsets)) (before words) count r ⌝ }
+    ensures { λ r. ⌜ Standing (length (before terms)) (termAt (before terms)) (view (before representatives) (before offsets)) (before readers) (before words) count r ⌝ }
 {
     for x in 0..terms.len() {
         if !is_deref(terms, TermNumber(x)) {
             continue;
+        }
+        let reader = reader_of(terms, representatives, readers, TermNumber(x));
+        if reader != MANY {
+            if is_alike(representatives, offsets, reader, TermNumber(x)) {
+                continue;
+            }
+            return false;
         }
         let i = places[x];
         if count <= i {
@@ -293,11 +362,12 @@ fn look_at_all(terms: &[TermRow], representatives: &[u32], offsets: &[i64]) -> L
     Look::Closed
 }
 
-// Looks at neighbours only, if the words are in order and hold each dereference.
+// Looks at neighbours only, if the words are in order and hold each dereference that is not like the reader of its class.
 fn look_by_order(
     terms: &[TermRow],
     representatives: &[u32],
     offsets: &[i64],
+    readers: &Readers,
     words: &Words,
     count: usize,
     places: &[usize; MOST],
@@ -309,7 +379,15 @@ fn look_by_order(
         Neighbours::Pair(x, y) => return Look::Pair(x, y),
         Neighbours::Unordered => return look_at_all(terms, representatives, offsets),
         Neighbours::Agree => {
-            if all_stand(terms, representatives, offsets, words, count, places) {
+            if all_stand(
+                terms,
+                representatives,
+                offsets,
+                readers,
+                words,
+                count,
+                places,
+            ) {
                 return Look::Closed;
             }
             return look_at_all(terms, representatives, offsets);
@@ -326,8 +404,18 @@ pub fn unequal_pair(terms: &[TermRow], representatives: &[u32], offsets: &[i64])
     let mut words = [0u64; MOST];
     let mut spare = [0u64; MOST];
     let mut places = [0usize; MOST];
-    let count = list_words(terms, representatives, offsets, &mut words);
+    let mut readers = [0usize; MOST];
+    note_readers(terms, representatives, offsets, &mut readers);
+    let count = list_words(terms, representatives, offsets, &readers, &mut words);
     sort(&mut words, &mut spare, count);
     note_places(&words, count, &mut places);
-    look_by_order(terms, representatives, offsets, &words, count, &places)
+    look_by_order(
+        terms,
+        representatives,
+        offsets,
+        &readers,
+        &words,
+        count,
+        &places,
+    )
 }

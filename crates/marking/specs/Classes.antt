@@ -1,5 +1,5 @@
 -- Terms that differ by their classes, and the sides of disequalities.
-use Prim.Native.Nat.{ℕ, _+_, _*_, _-_, _/_, _<_, _≤_}
+use Prim.Native.Nat.{ℕ, _+_, _*_, _<_}
 use mathlib.Core.Path.{_≡_, refl, sym, _∙_}
 use mathlib.Core.Logic.{_≢_, inl, inr, ⊎-elim}
 use mathlib.Core.Bool.{Bool, true, false, not, _&&_, _||_}
@@ -10,7 +10,7 @@ use lib.ListN.{length, getD}
 use borrow.Author.Tests.{eqb-true, eqb-false, eq-eqb, lt-ltb, ltb-true, ne-eqb, not-true}
 use Rattle.lists.specs.Booleans.{and-true, both-true, false-true, or-cases, or-second}
 use Rattle.lists.specs.Filled.{same-or-not}
-use Rattle.pairbits.specs.Bits.{isSet, isSet-zero}
+use Rattle.pairbits.specs.Bits.{isSet}
 use Rattle.points.specs.Places.{class, height, At, AtEither, top}
 use Rattle.marking.specs.Marks.{Adds, One, Upto, adds-as}
 
@@ -37,23 +37,6 @@ placesDiffer n apart classes heights i j = classesDiffer n apart (class classes 
 -- two homes by their classes; the class of what is no home is n
 abbrev pub PointsDiffer : ℕ → List ℕ → List ℕ → List ℕ → ℕ → ℕ → Type 0
 PointsDiffer n apart points heights i j = (class points i < n) × ((class points j < n) × (placesDiffer n apart points heights i j ≡ true))
-
--- no class is apart from a
-pub record NoneApart (n : ℕ) (apart : List ℕ) (a : ℕ) : Type 0 where
-  pub none : (b : ℕ) → b < n → isSet apart (a * n + b) ≡ false
-
--- the bytes from f on and before k are 0
-pub record ZeroBytes (f k : ℕ) (l : List ℕ) : Type 0 where
-  pub zero : (y : ℕ) → f ≤ y → y < k → getD l y 0 ≡ 0
-
-pub zero-start : (f : ℕ) (l : List ℕ) → ZeroBytes f f l
-zero-start f l = record { zero = λ y h g. absurd (omega arith) }
-
-pub zero-more : {f k : ℕ} {l : List ℕ} → getD l k 0 ≡ 0 → ZeroBytes f k l → ZeroBytes f (k + 1) l
-zero-more {f} {k} {l} e Z = record { zero = λ y h g. ⊎-elim (λ (s : y ≡ k). rw s e) (λ (m : y ≢ k). Z .zero y h (omega arith)) (same-or-not y k) }
-
-pub zero-none : (n a : ℕ) {k : ℕ} {apart : List ℕ} → (a * n + (n - 1)) / 8 < k → ZeroBytes ((a * n + 0) / 8) k apart → NoneApart n apart a
-zero-none n a {k} {apart} h Z = record { none = λ b l. isSet-zero apart (a * n + b) (Z .zero ((a * n + b) / 8) (omega arith) (omega arith)) }
 
 -- the places of the two sides of proposition k; the class of what is no disequality is n
 pub record Side (n : ℕ) (leftClasses leftHeights rightClasses rightHeights : List ℕ) (k : ℕ) : Type 0 where

@@ -6,3 +6,4 @@ pub mod Known
 pub mod Marks
 pub mod Pairs
 pub mod Rows
+pub mod Single

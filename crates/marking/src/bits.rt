@@ -16,7 +16,7 @@ pub(crate) fn pair_number(n: usize, i: TermNumber, j: TermNumber) -> usize
     i.0 * n + j.0
 }
 
-// Sets the bit of a pair. Public for the crates `expansion`, `differences` and `placing`.
+// Sets the bit of a pair. Public for the crates `expansion` and `placing`.
 pub fn set_pair(n: usize, i: TermNumber, j: TermNumber, table: &mut [u8])
     requires { ⌜ Inside n (i .0) (j .0) × Room n (now table) ⌝ }
     ensures { λ _. ⌜ Adds n (One (i .0) (j .0)) (before table) (after table) ⌝ }
@@ -34,7 +34,7 @@ pub fn set_both(n: usize, i: TermNumber, j: TermNumber, table: &mut [u8])
     set_pair(n, j, i, table);
 }
 
-// Whether the bit of a pair is set. Public for the crates `differences` and `questions`.
+// Whether the bit of a pair is set. Public for the crates `settling` and `questions`.
 pub fn test_pair(n: usize, i: TermNumber, j: TermNumber, table: &[u8]) -> bool
     requires { ⌜ Inside n (i .0) (j .0) × Room n (now table) ⌝ }
     ensures { λ r. ⌜ r ≡ isSet (before table) (i .0 * n + j .0) ⌝ }

@@ -7,3 +7,4 @@ mod far;
 mod indexed;
 mod known;
 pub mod notes;
+mod single;

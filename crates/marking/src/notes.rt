@@ -1,24 +1,25 @@
-// Notes that save time. Nothing here is relied on: what a note says is tested before it is used. Public for the crate `differences`.
+// Notes that save time. Nothing here is relied on: what a note says is tested before it is used. Public for the crates
+// `settling` and `differences`.
 use types::MOST;
 use types::TermNumber;
 
-// From 0, how many points each class has. From READERS, for each home 1 + the last dereference noted for it; from NEXT, for each
-// dereference 1 + the one noted before it for its home; 0 for none. At STEPS, the steps taken. At STACK, the height of a stack, then what
-// is on it: pairs of homes whose bits were set. What does not fit is dropped. From FIRED, for buckets of distances the last pair of
-// dereferences whose pairs were set.
-pub type Notes = [u32; 6144];
+// From 0, how many points each class has. From READERS, for each home 1 if a dereference has its value there. At STEPS, the steps taken.
+// At STACK, the height of a stack, then what is on it: pairs of homes whose bits were set. What does not fit is dropped. From FIRED, for
+// buckets of distances the last pair of dereferences that was looked at.
+pub type Notes = [u32; NOTES];
 
-const CELLS: usize = 4096;
+// How many notes there are.
+pub const NOTES: usize = FIRED + FACTS;
+
+const CELLS: usize = 2048;
 
 const READERS: usize = 1024;
 
-const NEXT: usize = 1536;
+const STEPS: usize = 1536;
 
-const STEPS: usize = 2048;
+const STACK: usize = 1537;
 
-const STACK: usize = 2049;
-
-const FIRED: usize = 4096;
+const FIRED: usize = CELLS;
 
 const FACTS: usize = 2048;
 
@@ -48,21 +49,35 @@ pub(crate) fn size(class: u32, notes: &Notes) -> u32 {
     notes[wide(class) % READERS]
 }
 
-// Notes that the value of dereference x is at home h.
-pub fn note_reader(x: TermNumber, h: usize, notes: &mut Notes) {
-    let at = READERS + h % MOST;
-    notes[NEXT + x.0 % MOST] = notes[at];
-    notes[at] = narrow(x.0 % MOST + 1);
+// A class with fewer points has few.
+const FEW: u32 = 5;
+
+// A class with more points has many.
+const MANY: u32 = 160;
+
+// Whether two classes or more have many points.
+pub fn are_many(notes: &Notes) -> bool {
+    let mut count = 0usize;
+    for c in 0..MOST {
+        if MANY < notes[c] {
+            count = std::num::wrapping_add_usize(count, 1);
+        }
+    }
+    2 <= count
 }
 
-// 1 + the dereference that was noted last for home h; 0 if there is none.
-pub fn last_reader(h: usize, notes: &Notes) -> usize {
-    wide(notes[READERS + h % MOST])
+// Whether one of two classes has few points.
+pub fn are_few(a: u32, b: u32, notes: &Notes) -> bool {
+    (size(a, notes) < FEW) | (size(b, notes) < FEW)
 }
 
-// 1 + the dereference that was noted before x for its home.
-pub fn reader_before(x: usize, notes: &Notes) -> usize {
-    wide(notes[NEXT + x % MOST])
+// Notes that a dereference has its value at home h.
+pub fn note_reader(h: usize, notes: &mut Notes) {
+    notes[READERS + h % MOST] = 1;
+}
+
+fn has_reader(h: TermNumber, notes: &Notes) -> bool {
+    notes[READERS + h.0 % MOST] == 1
 }
 
 // Notes that steps were taken. A step that sets a pair does not count (`note_pair`): an index would not save it.
@@ -100,10 +115,10 @@ pub(crate) fn note_pair(fresh: bool, i: TermNumber, j: TermNumber, notes: &mut N
         return;
     }
     raise(STEPS, 0xFFFF_FFFF, notes);
-    if last_reader(i.0, notes) == 0 {
+    if !has_reader(i, notes) {
         return;
     }
-    if last_reader(j.0, notes) == 0 {
+    if !has_reader(j, notes) {
         return;
     }
     push(i.0 % MOST * MOST + j.0 % MOST, notes);
@@ -123,7 +138,7 @@ pub fn pop(notes: &mut Notes) -> usize {
     wide(notes[top])
 }
 
-// Notes that the pairs of x and y are set.
+// Notes that x and y are looked at.
 pub fn note_fired(bucket: usize, x: TermNumber, y: TermNumber, notes: &mut Notes) {
     notes[FIRED + bucket % FACTS] = narrow(x.0 % MOST * MOST + y.0 % MOST);
 }

@@ -2,7 +2,7 @@
 // `marking` and `refusals`.
 ghost use mathlib.Core.Path.{_≡_};
 ghost use Prim.Native.Nat.{_/_, _<_};
-ghost use lib.ListN.{length, getD};
+ghost use lib.ListN.{length};
 ghost use Rattle.lists.specs.Lent.{before, after};
 ghost use Rattle.pairbits.specs.Bits.{isSet, withBit};
 
@@ -21,14 +21,4 @@ pub fn test_bit(bytes: &[u8], i: usize) -> bool
     ensures { λ r. ⌜ r ≡ isSet (before bytes) i ⌝ }
 {
     ((bytes[i / 8] >> (i % 8)) & 1) == 1
-}
-
-// Byte k, 0 past the end.
-pub fn byte_at(bytes: &[u8], k: usize) -> u8
-    ensures { λ r. ⌜ r ≡ getD (before bytes) k 0 ⌝ }
-{
-    if k < bytes.len() {
-        return bytes[k];
-    }
-    0
 }

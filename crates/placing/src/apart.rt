@@ -1,4 +1,5 @@
 // The table of apart classes: the bit of two representatives is set where their classes are given apart.
+use marking::base::mark_masked;
 use marking::bits::set_both;
 use marking::bits::set_pair;
 use tables::PropositionRow;
@@ -10,6 +11,8 @@ use types::PropositionNumber;
 use types::TermNumber;
 use types::VARIABLE;
 use types::index;
+use words::contains;
+use words::put;
 ghost use mathlib.Core.Path.{_≡_};
 ghost use Prim.Native.Nat.{_<_};
 ghost use lib.Dec.{eqb};
@@ -18,8 +21,9 @@ ghost use Rattle.lists.specs.Lent.{before, after};
 ghost use Rattle.tables.specs.Records.{variableKind};
 ghost use Rattle.tables.specs.Rows.{termAt, propositionAt};
 ghost use Rattle.tables.specs.Sets.{setOf};
-ghost use Rattle.marking.specs.Marks.{Adds, Room, Upto};
-ghost use Rattle.placing.specs.Apart.{ApartClasses, BlockPair, VariablePair};
+ghost use Rattle.marking.specs.Marks.{Adds, Inside, Room, Upto, zeros};
+ghost use Rattle.marking.specs.Rows.{Below};
+ghost use Rattle.placing.specs.Apart.{ApartClasses, BlockPair, Gathered, VariablePair, VariablePut, VariableRow};
 ghost use Rattle.placing.specs.Placed.{Classed, Classes};
 
 // The class of term t, as the number of a term.
@@ -67,29 +71,43 @@ fn mark_blocks(terms: &[TermRow], propositions: &[PropositionRow], reps: &[u32],
     }
 }
 
-// The classes of the variable i and of the term j, if it is another variable: two listed variables are distinct.
-fn mark_pair(terms: &[TermRow], reps: &[u32], i: TermNumber, j: TermNumber, table: &mut [u8])
-    requires { ⌜ Classes (length (now terms)) (now reps) × ((i .0 < length (now terms)) × (termAt (now terms) (i .0) .kind ≡ variableKind)) ⌝ }
-    requires { ⌜ (j .0 < length (now terms)) × Room (length (now terms)) (now table) ⌝ }
-    ensures { λ _. ⌜ Adds (length (before terms)) (VariablePair (termAt (before terms)) (before reps) (i .0) (j .0)) (before table) (after table) ⌝ }
+// Puts a class into a mask, and sets its own bit if it is there already.
+fn put_class(n: usize, c: TermNumber, mask: &mut [u64], table: &mut [u8])
+    requires { ⌜ Inside n (c .0) (c .0) × ((length (now mask) ≡ 8) × Room n (now table)) ⌝ }
+    ensures { λ _. ⌜ VariablePut n (c .0) (before mask) (after mask) (before table) (after table) ⌝ }
 {
-    if i.0 == j.0 {
+    let k = c.0;
+    if contains(mask, k) {
+        set_pair(n, c, c, table);
         return;
     }
-    if !is_variable(terms, j) {
-        return;
-    }
-    set_pair(terms.len(), class_of(reps, i.0), class_of(reps, j.0), table);
+    put(mask, k);
 }
 
-// The class of variable i with those of the other variables.
-fn mark_variable(terms: &[TermRow], reps: &[u32], i: TermNumber, table: &mut [u8])
-    requires { ⌜ Classes (length (now terms)) (now reps) × ((i .0 < length (now terms)) × (termAt (now terms) (i .0) .kind ≡ variableKind)) ⌝ }
-    requires { ⌜ Room (length (now terms)) (now table) ⌝ }
-    ensures { λ _. ⌜ Adds (length (before terms)) (Upto (length (before terms)) (VariablePair (termAt (before terms)) (before reps) (i .0))) (before table) (after table) ⌝ }
+// Puts the class of each variable into a mask. Where two variables are in one class, it is apart from itself.
+fn put_variables(terms: &[TermRow], reps: &[u32], mask: &mut [u64], table: &mut [u8])
+    requires { ⌜ Classes (length (now terms)) (now reps) × ((now mask ≡ zeros 8) × Room (length (now terms)) (now table)) ⌝ }
+    ensures { λ _. ⌜ Gathered (length (before terms)) (termAt (before terms)) (before reps) (length (before terms)) (after mask) (before table) (after table) ⌝ }
 {
-    for j in 0..terms.len() {
-        mark_pair(terms, reps, i, TermNumber(j), table);
+    for i in 0..terms.len() {
+        if !is_variable(terms, TermNumber(i)) {
+            continue;
+        }
+        put_class(terms.len(), class_of(reps, i), mask, table);
+    }
+}
+
+// The class of each variable with those of a mask but itself.
+fn mark_rows(terms: &[TermRow], reps: &[u32], mask: &[u64], table: &mut [u8])
+    requires { ⌜ Classes (length (now terms)) (now reps) × (Below (length (now terms)) (now mask) × Room (length (now terms)) (now table)) ⌝ }
+    ensures { λ _. ⌜ Adds (length (before terms)) (Upto (length (before terms)) (VariableRow (length (before terms)) (termAt (before terms)) (before reps) (before mask))) (before table) (after table) ⌝ }
+{
+    for i in 0..terms.len() {
+        if !is_variable(terms, TermNumber(i)) {
+            continue;
+        }
+        let c = class_of(reps, i);
+        mark_masked(terms.len(), c, c.0, mask, table);
     }
 }
 
@@ -98,12 +116,9 @@ fn mark_variables(terms: &[TermRow], reps: &[u32], table: &mut [u8])
     requires { ⌜ Classes (length (now terms)) (now reps) × Room (length (now terms)) (now table) ⌝ }
     ensures { λ _. ⌜ Adds (length (before terms)) (Upto (length (before terms)) (λ i. Upto (length (before terms)) (VariablePair (termAt (before terms)) (before reps) i))) (before table) (after table) ⌝ }
 {
-    for i in 0..terms.len() {
-        if !is_variable(terms, TermNumber(i)) {
-            continue;
-        }
-        mark_variable(terms, reps, TermNumber(i), table);
-    }
+    let mut mask = [0u64; 8];
+    put_variables(terms, reps, &mut mask, table);
+    mark_rows(terms, reps, &mask, table);
 }
 
 // Both. Public for the crate `columns`.

@@ -1,5 +1,5 @@
 // Places: a class, and a height in it. A term has a place, and a dereference reads one. Public for the crates `distances`, `marking`,
-// `expansion`, `differences`, `placing`, `questions` and `columns`.
+// `expansion`, `settling`, `differences`, `placing`, `questions` and `columns`.
 use std::num::wrapping_add_u32;
 use types::TermNumber;
 ghost use mathlib.Core.Path.{_≡_};

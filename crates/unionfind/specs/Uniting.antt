@@ -63,7 +63,7 @@ found-both A B = record {
 }
 
 module _ {p0 : List ℕ} {o0 : List ℤ} {p : List ℕ} {o : List ℤ} {a b : ℕ} {x y : Root} (B : Pair p0 o0 p o a x b y) where
-  pub swapped : Pair p0 o0 p o b y a x
+  swapped : Pair p0 o0 p o b y a x
   swapped = record {
     links = B .links;
     same = B .same;
@@ -74,7 +74,7 @@ module _ {p0 : List ℕ} {o0 : List ℤ} {p : List ℕ} {o : List ℤ} {a b : �
     offset-b = B .offset-a;
   }
 
-  pub pair-root : getD p (x .term .0) 0 ≡ x .term .0
+  pair-root : getD p (x .term .0) 0 ≡ x .term .0
   pair-root = rw (B .root-a, ← B .same) (flat-root (B .links) a)
 
   follows : Follows p o (flat p0 o0)
@@ -86,11 +86,24 @@ module _ {p0 : List ℕ} {o0 : List ℤ} {p : List ℕ} {o : List ℤ} {a b : �
   pair-zero : flat p0 o0 .position (x .term .0) ≡ pos 0
   pair-zero = follows .root-position (x .term .0) pair-root
 
-  pub pair-below : a < length p0 → x .term .0 < length p
+  pair-below : a < length p0 → x .term .0 < length p
   pair-below h = rw (B .root-a, ← B .same) (omega (arith, flat-lowest (B .links) a, B .long))
 
-  pub pair-near : Near (length p0) (flat p0 o0) → a < length p0 → Within far (x .offset)
+  pair-near : Near (length p0) (flat p0 o0) → a < length p0 → Within far (x .offset)
   pair-near N h = rw (B .offset-a) (N .near h)
+
+-- so their roots can be joined
+pub pair-joinable :
+    {p0 : List ℕ} {o0 : List ℤ} {p : List ℕ} {o : List ℤ} {a b : ℕ} {x y : Root} →
+    Pair p0 o0 p o a x b y →
+    Near (length p0) (flat p0 o0) →
+    a < length p0 →
+    b < length p0 →
+    {z : ℤ} →
+    Within far z →
+    (Links p o × ((x .term .0 < length p) × (y .term .0 < length p))) × (((getD p (x .term .0) 0 ≡ x .term .0) × (getD p (y .term .0) 0 ≡ y .term .0)) × (Within far (x .offset) × (Within far z × Within far (y .offset))))
+pair-joinable B N ha hb w =
+    ((B .links, (pair-below B ha, pair-below (swapped B) hb)), ((pair-root B, pair-root (swapped B)), (pair-near B N ha, (w, pair-near (swapped B) N hb))))
 
 -- i and j are the roots of a and b, and i = d + j says what a = z + b does
 record Between (P : Placement) (a : ℕ) (z : ℤ) (b i : ℕ) (d : ℤ) (j : ℕ) : Type 0 where

@@ -122,6 +122,21 @@ fn join_roots(parents: &mut [u32], offsets: &mut [i64], i: usize, d: i64, j: usi
     Joining::Joined
 }
 
+// Joins a = z + b, given the roots of a and b. Public for the crate `joins`.
+pub fn join_found(parents: &mut [u32], offsets: &mut [i64], x: Root, z: i64, y: Root) -> Joining
+    requires { ⌜ Links (now parents) (now offsets) × ((x .term .0 < length (now parents)) × (y .term .0 < length (now parents))) ⌝ }
+    requires { ⌜ ((getD (now parents) (x .term .0) 0 ≡ x .term .0) × (getD (now parents) (y .term .0) 0 ≡ y .term .0)) × (Within far (x .offset) × (Within far z × Within far (y .offset))) ⌝ }
+    ensures { λ r. ⌜ Equated (before parents) (before offsets) (after parents) (after offsets) (x .term .0) (z +ℤ y .offset -ℤ x .offset) (y .term .0) r ⌝ }
+{
+    join_roots(
+        parents,
+        offsets,
+        x.term.0,
+        distance(x.offset, z, y.offset),
+        y.term.0,
+    )
+}
+
 // Joins a = z + b. Where a and b are of one class it holds already, or cannot.
 pub fn join(
     parents: &mut [u32],
@@ -136,13 +151,7 @@ pub fn join(
 {
     let x = find(parents, offsets, a);
     let y = find(parents, offsets, b);
-    join_roots(
-        parents,
-        offsets,
-        x.term.0,
-        distance(x.offset, z, y.offset),
-        y.term.0,
-    )
+    join_found(parents, offsets, x, z, y)
 }
 
 // Hangs each term under its root. In rising order a term's parent hangs under its root already.

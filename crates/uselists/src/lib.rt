@@ -1,6 +1,6 @@
-// Use lists, where congruence closure looks for joins: for each class the dereferences over it, those to look at next, and a table from
-// addresses to dereferences. Nothing here is relied on: what it says is tested before it is used, so it promises no more than ranges.
-// Public for the crates `joins` and `congruence`.
+// Use lists, where congruence closure looks for joins: for each class the dereferences over it, one for each address, those to look at
+// next, and a table from addresses to dereferences. Nothing here is relied on: what it says is tested before it is used, so it promises
+// no more than ranges. Public for the crates `joins` and `congruence`.
 use offsets::bits;
 use std::num::wrapping_add_u64;
 use std::num::wrapping_sub_u64;
@@ -8,25 +8,28 @@ use types::MOST;
 use unionfind::Root;
 ghost use Prim.Native.Nat.{_<_, _^_};
 
-// The parts of the notes, MOST cells each. The first and the last use of a class and how many it has, the next use after a use; the name
-// of a class in the table of addresses; a stack of uses to look at, and which of them are on it.
+// Notes of 16 bits: parts of MOST cells each, and from 4096 on the table of addresses.
+pub type Notes = [u16; 8192];
+
+// Notes of 64 bits: by class, where its addresses are counted from; from MOST on by dereference, its key in the table.
+pub type Keys = [u64; 1024];
+
+// The parts of the notes. By list of uses its first and its last use and how many it has; by use the next after it; by class one more
+// than the number of its list, 0 where that is its own; the uses to look at again, as a list by its first; the terms looked at.
 const FIRST: usize = 0;
 
-const NEXT: usize = MOST;
+const LAST: usize = MOST;
 
-const LAST: usize = 2 * MOST;
+const SIZE: usize = 2 * MOST;
 
-const SIZE: usize = 3 * MOST;
+const NEXT: usize = 3 * MOST;
 
-const NAME: usize = 4 * MOST;
+const LIST: usize = 4 * MOST;
 
-const STACK: usize = 5 * MOST;
+const WAITING: usize = 5 * MOST;
 
-const WAITING: usize = 6 * MOST;
+const LOOKED: usize = 6 * MOST;
 
-const HEIGHT: usize = 7 * MOST;
-
-// The table of addresses, in the cells from 4096 on.
 const SLOTS: usize = 4096;
 
 fn wide(x: u16) -> usize
@@ -35,74 +38,44 @@ fn wide(x: u16) -> usize
     x as usize
 }
 
-// Cell i of a part; 0 where there is none.
-fn peek(notes: &[u16], part: usize, i: usize) -> usize
+// Cell i of a part.
+fn peek(notes: &Notes, part: usize, i: usize) -> usize
     ensures { λ r. ⌜ r < 2 ^ 16 ⌝ }
 {
-    let k = part % 4096 + i % MOST;
-    if k < notes.len() {
-        return wide(notes[k]);
-    }
-    0
+    wide(notes[part % SLOTS + i % MOST])
 }
 
-fn poke(notes: &mut [u16], part: usize, i: usize, value: usize) {
-    let k = part % 4096 + i % MOST;
-    if k < notes.len() {
-        notes[k] = (value % 65536) as u16;
-    }
+fn poke(notes: &mut Notes, part: usize, i: usize, value: usize) {
+    notes[part % SLOTS + i % MOST] = (value % 65536) as u16;
 }
 
 // One more than the dereference in a slot of the table; 0 where it is empty.
-pub fn slot(notes: &[u16], s: usize) -> usize
+fn slot(notes: &Notes, s: usize) -> usize
     ensures { λ r. ⌜ r < 2 ^ 16 ⌝ }
 {
-    let k = SLOTS + s % 4096;
-    if k < notes.len() {
-        return wide(notes[k]);
-    }
-    0
+    wide(notes[SLOTS + s % SLOTS])
 }
 
-pub fn set_slot(notes: &mut [u16], s: usize, x: usize) {
-    let k = SLOTS + s % 4096;
-    if k < notes.len() {
-        notes[k] = (x % MOST + 1) as u16;
-    }
+fn set_slot(notes: &mut Notes, s: usize, x: usize) {
+    notes[SLOTS + s % SLOTS] = (x % MOST + 1) as u16;
 }
 
-fn shift(shifts: &[u64], class: usize) -> u64 {
-    let k = class % MOST;
-    if k < shifts.len() {
-        return shifts[k];
+// The number of the list of a class.
+fn list_of(notes: &Notes, class: usize) -> usize {
+    let other = peek(notes, LIST, class);
+    if other != 0 {
+        return other - 1;
     }
-    0
-}
-
-fn set_shift(shifts: &mut [u64], class: usize, value: u64) {
-    let k = class % MOST;
-    if k < shifts.len() {
-        shifts[k] = value;
-    }
-}
-
-// The name of a class in the table: one more than its number, until it takes another's.
-fn name(notes: &[u16], class: usize) -> usize {
-    let named = peek(notes, NAME, class);
-    if named != 0 {
-        return named;
-    }
-    class % MOST + 1
+    class
 }
 
 // One more than the highest place in a class that a key tells.
 const PLACES: u64 = 0x40_0000_0000_0000;
 
-// A key of an address for the table: the name of its class, and its place in it.
-pub fn address_key(notes: &[u16], shifts: &[u64], at: Root) -> u64 {
-    let class = at.term.0;
-    let place = wrapping_sub_u64(bits(at.offset), shift(shifts, class));
-    (name(notes, class) % 1024) as u64 * PLACES + place % PLACES
+// A key of an address for the table: the list of its class, and its place in it.
+fn address_key(keys: &Keys, list: usize, at: Root) -> u64 {
+    let place = wrapping_sub_u64(bits(at.offset), keys[at.term.0 % MOST]);
+    (list % MOST) as u64 * PLACES + place % PLACES
 }
 
 // Numbers of 32 bits.
@@ -112,7 +85,8 @@ const WORD: u64 = 0x1_0000_0000;
 fn first_hash(key: u64) -> u64
     ensures { λ r. ⌜ r < 2 ^ 32 ⌝ }
 {
-    (key % WORD * 2246822519 % WORD + key / WORD * 2654435761 % WORD) % WORD
+    let product = (key % WORD * 2246822519) ^ (key / WORD * 2654435761);
+    (product ^ (product / WORD)) % WORD
 }
 
 fn second_hash(key: u64) -> u64
@@ -130,7 +104,7 @@ fn mix(x: u64) -> u64
 
 // Slot i of the probe sequence of a key. The first slot is found quickly. The others hang on all bits of the key, so that keys that
 // meet in one slot part in the next.
-pub fn probe(key: u64, i: usize) -> usize {
+fn probe(key: u64, i: usize) -> usize {
     let first = first_hash(key);
     if i == 0 {
         return (first / 1048576) as usize;
@@ -139,102 +113,96 @@ pub fn probe(key: u64, i: usize) -> usize {
     (mixed / 1048576) as usize
 }
 
-// Puts x on the stack, unless it is there.
-fn push(notes: &mut [u16], x: usize) {
-    if peek(notes, WAITING, x) != 0 {
-        return;
-    }
-    let height = peek(notes, HEIGHT, 0);
-    poke(notes, WAITING, x, 1);
-    poke(notes, STACK, height, x);
-    poke(notes, HEIGHT, 0, height + 1);
-}
+// The slots of the table that are tried for a key.
+const TRIES: usize = MOST;
 
-// One more than the use on top of the stack, which is taken off; 0 where the stack is empty.
-pub fn pop(notes: &mut [u16]) -> usize {
-    let height = peek(notes, HEIGHT, 0);
-    if height == 0 {
-        return 0;
-    }
-    let x = peek(notes, STACK, height - 1);
-    poke(notes, HEIGHT, 0, height - 1);
-    poke(notes, WAITING, x, 0);
-    x + 1
-}
-
-// Puts the uses of a class on the stack.
-fn push_uses(notes: &mut [u16], class: usize) {
-    let mut next = peek(notes, FIRST, class);
-    for _ in 0..512usize {
-        if next == 0 {
-            return;
+// One more than the dereference with this key in the table; 0 if there is none, and then x is put there.
+fn seek(notes: &mut Notes, keys: &mut Keys, key: u64, x: usize) -> usize {
+    for i in 0..TRIES {
+        let s = probe(key, i);
+        let found = slot(notes, s);
+        if found == 0 {
+            set_slot(notes, s, x);
+            keys[MOST + x % MOST] = key;
+            return 0;
         }
-        push(notes, next - 1);
-        next = peek(notes, NEXT, next - 1);
+        if keys[MOST + (found - 1) % MOST] == key {
+            return found;
+        }
     }
+    0
 }
 
-// Puts a list of uses, given by its first, after those of a class.
-fn link_after(notes: &mut [u16], class: usize, first: usize) {
-    if peek(notes, FIRST, class) == 0 {
-        poke(notes, FIRST, class, first);
-        return;
+// Puts x first in a list of uses.
+fn add_use(notes: &mut Notes, list: usize, x: usize) {
+    let first = peek(notes, FIRST, list);
+    let size = peek(notes, SIZE, list);
+    if first == 0 {
+        poke(notes, LAST, list, x);
     }
-    let last = peek(notes, LAST, class);
-    poke(notes, NEXT, last, first);
+    poke(notes, NEXT, x, first);
+    poke(notes, FIRST, list, x % MOST + 1);
+    poke(notes, SIZE, list, size + 1);
 }
 
-// Puts the dereference x to the uses of a class and on the stack.
-pub fn add_use(notes: &mut [u16], class: usize, x: usize) {
-    link_after(notes, class, x % MOST + 1);
-    let size = peek(notes, SIZE, class);
-    poke(notes, LAST, class, x);
-    poke(notes, SIZE, class, size + 1);
-    push(notes, x);
+// One more than a dereference that is noted to read this address; 0 where there is none, and then x is noted.
+pub fn look_up(notes: &mut Notes, keys: &mut Keys, at: Root, x: usize) -> usize {
+    let list = list_of(notes, at.term.0);
+    let found = seek(notes, keys, address_key(keys, list, at), x);
+    if found == 0 {
+        add_use(notes, list, x);
+    }
+    found
 }
 
-// Moves the uses of one class to the end of another's.
-fn append_uses(notes: &mut [u16], from: usize, to: usize) {
-    let first = peek(notes, FIRST, from);
+// The term to look at next: a use that waits, or else the first term not looked at.
+pub fn next_term(notes: &mut Notes) -> usize {
+    let waiting = peek(notes, WAITING, 0);
+    if waiting == 0 {
+        let x = peek(notes, LOOKED, 0);
+        poke(notes, LOOKED, 0, x + 1);
+        return x;
+    }
+    let next = peek(notes, NEXT, waiting - 1);
+    poke(notes, WAITING, 0, next);
+    waiting - 1
+}
+
+// The uses of a list are to be looked at again.
+fn wait(notes: &mut Notes, list: usize) {
+    let first = peek(notes, FIRST, list);
     if first == 0 {
         return;
     }
-    link_after(notes, to, first);
-    let last = peek(notes, LAST, from);
-    let size = peek(notes, SIZE, from) + peek(notes, SIZE, to);
-    poke(notes, LAST, to, last);
-    poke(notes, SIZE, to, size);
+    let last = peek(notes, LAST, list);
+    let waiting = peek(notes, WAITING, 0);
+    poke(notes, NEXT, last, waiting);
+    poke(notes, WAITING, 0, first);
 }
 
-// The uses of the class that has fewer are to be looked at again, where `from` is d + `to`; the others keep their places in the table,
-// under their name.
-fn keep_larger(notes: &mut [u16], shifts: &mut [u64], from: usize, d: u64, to: usize) {
-    if peek(notes, SIZE, from) <= peek(notes, SIZE, to) {
-        push_uses(notes, from);
+// Joins the lists of two classes, where `from` is d + `to`: the longer is kept with its keys, the uses of the other wait.
+fn join_lists(notes: &mut Notes, keys: &mut Keys, from: usize, d: u64, to: usize) {
+    let moved = list_of(notes, from);
+    let other = list_of(notes, to);
+    if peek(notes, SIZE, moved) <= peek(notes, SIZE, other) {
+        wait(notes, moved);
         return;
     }
-    push_uses(notes, to);
-    let kept = name(notes, from);
-    poke(notes, NAME, to, kept);
-    let moved = wrapping_add_u64(shift(shifts, from), d);
-    set_shift(shifts, to, moved);
+    wait(notes, other);
+    poke(notes, LIST, to, moved % MOST + 1);
+    keys[to % MOST] = wrapping_add_u64(keys[from % MOST], d);
 }
 
-// Joins the uses of two classes, where `from` is d + `to`.
-fn merge_uses(notes: &mut [u16], shifts: &mut [u64], from: usize, d: u64, to: usize) {
-    keep_larger(notes, shifts, from, d, to);
-    append_uses(notes, from, to);
-}
-
-// Joins the uses of the classes of two terms that are equal, given their labels before the classes were joined.
-pub fn join_uses(notes: &mut [u16], shifts: &mut [u64], a: Root, b: Root) {
+// Joins the uses of the classes of two terms that are equal, given their labels before the classes are joined.
+pub fn join_uses(notes: &mut Notes, keys: &mut Keys, a: Root, b: Root) {
     let i = a.term.0;
     let j = b.term.0;
     if j < i {
         let d = wrapping_sub_u64(bits(b.offset), bits(a.offset));
-        merge_uses(notes, shifts, i, d, j);
-    } else {
+        join_lists(notes, keys, i, d, j);
+    }
+    if i < j {
         let d = wrapping_sub_u64(bits(a.offset), bits(b.offset));
-        merge_uses(notes, shifts, j, d, i);
+        join_lists(notes, keys, j, d, i);
     }
 }

@@ -438,6 +438,20 @@ pub mask-past : (mask : List ℕ) (v : ℕ) → length mask ≤ v / 64 → inMas
 unfolding inMask
 mask-past mask v h = rw (List·getD-eq-default mask 0 h) (one-past 0 0 (v % 64) (omega arith) (omega arith))
 
+-- r is word w of a mask, with number j if that is in it
+pub record With (x w j r : ℕ) : Type 0 where
+  pub bits : (b : ℕ) → b < 64 → isOne r b ≡ (isOne x b || eqb (64 * w + b) j)
+
+pub with-other : (x w j : ℕ) → j / 64 ≢ w → With x w j x
+with-other x w j m = record { bits = λ b h. rw (ne-eqb (64 * w + b) j (λ f. m (omega arith))) (sym (or-none (isOne x b))) }
+
+pub with-bit : (x w j : ℕ) → j / 64 ≡ w → With x w j (bitOr x (1 * 2 ^ (j % 64) % 2 ^ 64))
+with-bit x w j s = record { bits = λ b h. one-or x (1 * 2 ^ (j % 64) % 2 ^ 64) b ∙ rw (one-bit (j % 64) b (omega arith) h, same b h (eqb b (j % 64)) refl) }
+  where
+    same : (b : ℕ) → b < 64 → (t : Bool) → eqb b (j % 64) ≡ t → eqb (64 * w + b) j ≡ t
+    same b h true e = eq-eqb (64 * w + b) j (omega (arith, eqb-true b (j % 64) e))
+    same b h false e = let n = eqb-false b (j % 64) e in ne-eqb (64 * w + b) j (λ f. n (omega arith))
+
 -- r is word w of a mask, without number j
 pub record Without (mask : List ℕ) (w j r : ℕ) : Type 0 where
   pub bits : (v : ℕ) → v / 64 ≡ w → isOne r (v % 64) ≡ (inMask mask v && not (eqb v j))
@@ -509,6 +523,24 @@ pub above-zero : {x r : ℕ} → r < 64 → bitAnd x (2 ^ r - 1) ≡ 0 → Above
 above-zero {x} {r} h e =
     let z : x % 2 ^ r ≡ 0 = sym (and-mask x r) ∙ e in
     record { below = λ b g. sym (one-mod x r b g) ∙ (rw z (one-past 0 0 b (omega arith) (omega arith))); few = omega arith }
+
+-- r is the first bit of a word from `from` on that is 1, if it is below 64
+pub record NextOne (x from r : ℕ) : Type 0 where
+  pub after : from ≤ r
+  pub few : r ≤ 128
+  pub hit : r < 64 → isOne x r ≡ true
+  pub none : (b : ℕ) → from ≤ b → b < r → b < 64 → isOne x b ≡ false
+
+pub next-none : (x : ℕ) {from : ℕ} → from ≡ 64 → NextOne x from 64
+next-none x e = record { after = omega arith; few = omega arith; hit = λ h. absurd (omega arith); none = λ b h g. absurd (omega arith) }
+
+pub next-lowest : (x from : ℕ) {r : ℕ} → from ≤ 64 → Lowest (x / 2 ^ from) r → NextOne x from (from + r)
+next-lowest x from {r} h L = record {
+  after = omega arith;
+  few = omega (arith, L .few);
+  hit = λ g. sym (one-down x from r) ∙ L .hit (omega arith);
+  none = λ b l g k. let e : from + (b - from) ≡ b = omega arith in rw e at (sym (one-down x from (b - from)) ∙ L .below (b - from) (omega arith) (omega arith));
+}
 
 -- the bits of a row and of a mask from number v on, up to the end of the mask's word
 pub record Common (start : ℕ) (table mask : List ℕ) (v r : ℕ) : Type 0 where

@@ -1,5 +1,5 @@
 // Words of 64 bits of a byte table, read and set at any bit, and masks: words with a bit for each number. Public for the crates
-// `marking`, `expansion` and `differences`.
+// `marking`, `expansion`, `settling` and `placing`.
 use pairbits::set_bit;
 use pairbits::test_bit;
 ghost use mathlib.Core.Path.{_≡_};
@@ -9,7 +9,7 @@ ghost use lib.ListN.{length, getD};
 ghost use Rattle.lists.specs.Lent.{before, after};
 ghost use Rattle.outcome.specs.PairBits.{bitValue};
 ghost use Rattle.pairbits.specs.Bits.{isSet};
-ghost use Rattle.words.specs.Words.{Common, Lowest, NextCommon, Ored, Put, Rest, Spells, Without};
+ghost use Rattle.words.specs.Words.{Common, inMask, Lowest, NextCommon, NextOne, Ored, Put, Rest, Spells, With, Without};
 
 fn wide(byte: u8) -> u64
     ensures { λ r. ⌜ (r ≡ byte) × (r < 256) ⌝ }
@@ -187,6 +187,23 @@ pub fn put(mask: &mut [u64], j: usize)
     mask[w] = mask[w] | (1u64 << (j % 64));
 }
 
+// Whether j is in a mask.
+pub fn contains(mask: &[u64], j: usize) -> bool
+    ensures { λ r. ⌜ r ≡ inMask (before mask) j ⌝ }
+{
+    (mask_word(mask, j / 64) >> (j % 64)) % 2 == 1
+}
+
+// Word w of a mask, with number j if that is in it.
+pub fn word_with(word: u64, w: usize, j: usize) -> u64
+    ensures { λ r. ⌜ With word w j r ⌝ }
+{
+    if j / 64 != w {
+        return word;
+    }
+    word | (1u64 << (j % 64))
+}
+
 // Word w of a mask, without number j.
 pub fn word_without(mask: &[u64], w: usize, j: usize) -> u64
     ensures { λ r. ⌜ Without (before mask) w j r ⌝ }
@@ -234,6 +251,17 @@ fn lowest(word: u64) -> usize
     first_one(word)
 }
 
+// The number of the first bit from `from` on that is 1; one that is not below 64 where there is none.
+pub fn next_one(word: u64, from: usize) -> usize
+    requires { ⌜ from ≤ 64 ⌝ }
+    ensures { λ r. ⌜ NextOne word from r ⌝ }
+{
+    if from == 64 {
+        return 64;
+    }
+    from + lowest(word >> from)
+}
+
 // The bits of the row and the mask from number v on, up to the end of the mask's word.
 pub fn common(start: usize, table: &[u8], mask: &[u64], v: usize) -> u64
     requires { ⌜ start + v + 64 < 2 ^ 64 ⌝ }
@@ -268,16 +296,4 @@ pub fn rest(x: &[u64], y: &[u64], rest: &mut [u64])
         let word = mask_word(x, w);
         rest[w] = word & (word ^ mask_word(y, w));
     }
-}
-
-// How many numbers are in the mask and have their bit set in the row, of rows of 512 bits. Nothing relies on it.
-pub fn count_common(start: usize, table: &[u8], mask: &[u64]) -> usize
-    requires { ⌜ start + 1024 < 2 ^ 64 ⌝ }
-    ensures { λ r. ⌜ r ≤ 512 ⌝ }
-{
-    let mut count = 0;
-    for w in 0..8 {
-        count = count + (u64::count_ones(common(start, table, mask, 64 * w)) % 65) as usize;
-    }
-    count
 }

@@ -65,9 +65,9 @@ extern "C" {
 }
 
 /// The stack that a call needs at most, as the header states.
-pub const STACK: usize = 320 * 1024;
+pub const STACK: usize = 256 * 1024;
 /// The stack that a call of `output` needs at most.
-pub const OUTPUT_STACK: usize = 400 * 1024;
+pub const OUTPUT_STACK: usize = 360 * 1024;
 
 /// A call on a stack of so many bytes.
 pub fn on_stack<A: Send>(bytes: usize, call: impl FnOnce() -> A + Send) -> A {

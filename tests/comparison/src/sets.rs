@@ -296,31 +296,26 @@ pub fn listed_twice_in_a_cycle(size: usize) -> Set {
     set
 }
 
-/// Two equal atoms, each read at the same offsets, whose searches in the closure's table of addresses all start at one slot, or another
-/// for negative ones: multiples of the inverse, modulo 2^32, of the factor that it multiplies by.
+/// Two equal atoms, each read at the same offsets, whose searches in the closure's table of addresses all start at one slot.
 pub fn one_slot(size: usize) -> Set {
     let mut set = Set::default();
     set.term(2, 0, 0);
     set.term(2, 1, 0);
+    let offsets: Vec<u32> = (0..).filter(|&offset| first_slot(offset) == 0).take(size / 2 - 1).collect();
     for atom in 0..2 {
-        for k in 1..size / 2 {
-            set.term(3, atom, (k as u32).wrapping_mul(INVERSE) as i32);
+        for &offset in &offsets {
+            set.term(3, atom, offset as i32);
         }
     }
     set.proposition(0x11, 0, 0, 1);
     set
 }
 
-/// 2246822519 times this is 1 modulo 2^32.
-const INVERSE: u32 = {
-    let mut inverse = 1u32;
-    let mut k = 0;
-    while k < 5 {
-        inverse = inverse.wrapping_mul(2u32.wrapping_sub(2246822519u32.wrapping_mul(inverse)));
-        k += 1;
-    }
-    inverse
-};
+/// The slot at which the closure starts to look for the address at an offset of class 0, from 0 to 2^31.
+fn first_slot(offset: u32) -> u64 {
+    let product = u64::from(offset) * 2246822519;
+    ((product ^ (product >> 32)) & 0xFFFF_FFFF) >> 20
+}
 
 /// Random terms and propositions, contradictory as a rule.
 pub fn tangle(r: &mut Numbers, size: usize) -> Set {

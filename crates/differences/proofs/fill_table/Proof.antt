@@ -17,18 +17,19 @@ settle-requires : tie.Need-settle-requires
 settle-requires c κs = let s = c .before .before .before .before .before .before .before .before .before .before .before .before .before .before .before .before .before .before .before .before .before .before .before .before .before .before .before .before in
     let p = s .pre in
     let G = p .0 .0 in
+    let H = p .1 .0 .homes-are in
     let L = p .1 .0 .leads-are in (
-      c .before .before .before .before .before .before .before .before .before .before .before .before .before .before .before .before .before .before .before .before .before .before .before .before .before .before .before .before .pre .1 .1,
+      p .1 .1,
       (
-        record {
-          reading = G .reading;
-          looks = record { few = G .reading .few; reads-long = G .reading .classes-long; homes-long = p .1 .0 .homes-are .long; homes-below = p .1 .0 .homes-are .below; apart-room = G .apart-room };
-        },
+        G .reading,
         (
-          record { few = omega (arith, L .few, G .reading .few); long = L .long; below = L .below },
+          record { few = G .reading .few; homes-long = H .long; homes-below = H .below; long = L .long; below = L .below },
           (
-            room-based (s .args .n) (s .args .m) (now (s .args .points)) (now (s .args .heights)) (now (s .args .left-classes)) (now (s .args .left-heights)) (now (s .args .right-classes)) (now (s .args .right-heights)) (now (s .args .apart)) (now (s .args .pairs)) (c .before .before .before .before .mark-base .ensures) (p .0 .1),
-            base-uniform (s .args .n) (s .args .m) (now (s .args .points)) (now (s .args .heights)) (now (s .args .left-classes)) (now (s .args .left-heights)) (now (s .args .right-classes)) (now (s .args .right-heights)) (now (s .args .apart)) (c .before .before .before .before .mark-base .ensures),
+            G .apart-room,
+            (
+              room-based (s .args .n) (s .args .m) (now (s .args .points)) (now (s .args .heights)) (now (s .args .left-classes)) (now (s .args .left-heights)) (now (s .args .right-classes)) (now (s .args .right-heights)) (now (s .args .apart)) (now (s .args .pairs)) (c .before .before .before .before .mark-base .ensures) (p .0 .1),
+              base-uniform (s .args .n) (s .args .m) (now (s .args .points)) (now (s .args .heights)) (now (s .args .left-classes)) (now (s .args .left-heights)) (now (s .args .right-classes)) (now (s .args .right-heights)) (now (s .args .apart)) (c .before .before .before .before .mark-base .ensures),
+            ),
           ),
         ),
       ),

@@ -10,7 +10,7 @@ returns c = tested-pair (rw (c .before .x .given .1) at (c .before .before .befo
 returns-3 : tie.Need-returns-3
 returns-3 c =
     let ordered = tested-right (rw (c .before .before .enum-told2 .given .1) at (c .before .before .before .before .compare-all .ensures)) in
-    closed-by-order _ _ (c .before .before .before .before .before .before .pre .0 .few) ordered (standing-all (rw (c .if1 .taken) at (c .before .all-stand .ensures)))
+    closed-by-order _ _ _ (c .before .before .before .before .before .before .pre .0 .few) ordered (standing-all (rw (c .if1 .taken) at (c .before .all-stand .ensures)))
 
 pub look-by-order-spec : {M : Type 1} → statement M
 look-by-order-spec =
