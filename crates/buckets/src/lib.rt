@@ -1,5 +1,5 @@
-// Buckets: for each key a chain of the numbers that have it, in rising order. Public for the crates `points`, `expansion`, `settling`
-// and `questions`.
+// Buckets: for each key a chain of the numbers that have it, in rising order. Public for the crates `points`, `marking`, `expansion`,
+// `settling` and `questions`.
 ghost use mathlib.Core.Path.{_≡_};
 ghost use Prim.Native.Nat.{_<_, _≤_, _^_};
 ghost use lib.ListN.{length};

@@ -1,5 +1,5 @@
 -- Terms that differ by their classes, and the sides of disequalities.
-use Prim.Native.Nat.{ℕ, _+_, _*_, _<_}
+use Prim.Native.Nat.{ℕ, _+_, _*_, _-_, _/_, _<_, _≤_}
 use mathlib.Core.Path.{_≡_, refl, sym, _∙_}
 use mathlib.Core.Logic.{_≢_, inl, inr, ⊎-elim}
 use mathlib.Core.Bool.{Bool, true, false, not, _&&_, _||_}
@@ -10,7 +10,9 @@ use lib.ListN.{length, getD}
 use borrow.Author.Tests.{eqb-true, eqb-false, eq-eqb, lt-ltb, ltb-true, ne-eqb, not-true}
 use Rattle.lists.specs.Booleans.{and-true, both-true, false-true, or-cases, or-second}
 use Rattle.lists.specs.Filled.{same-or-not}
+use Rattle.buckets.specs.Buckets.{less-or-not}
 use Rattle.pairbits.specs.Bits.{isSet}
+use Rattle.words.specs.Words.{isOne, one-past, Spells}
 use Rattle.points.specs.Places.{class, height, At, AtEither, top}
 use Rattle.marking.specs.Marks.{Adds, One, Upto, adds-as}
 
@@ -37,6 +39,29 @@ placesDiffer n apart classes heights i j = classesDiffer n apart (class classes 
 -- two homes by their classes; the class of what is no home is n
 abbrev pub PointsDiffer : ℕ → List ℕ → List ℕ → List ℕ → ℕ → ℕ → Type 0
 PointsDiffer n apart points heights i j = (class points i < n) × ((class points j < n) × (placesDiffer n apart points heights i j ≡ true))
+
+-- no class is apart from a
+pub record NoneApart (n : ℕ) (apart : List ℕ) (a : ℕ) : Type 0 where
+  pub none : (b : ℕ) → b < n → isSet apart (a * n + b) ≡ false
+
+-- the bits of k words from bit `start` on are 0
+pub record ZeroWords (start k : ℕ) (l : List ℕ) : Type 0 where
+  pub zero : (b : ℕ) → b < 64 * k → isSet l (start + b) ≡ false
+
+pub zero-start : (start : ℕ) (l : List ℕ) → ZeroWords start 0 l
+zero-start start l = record { zero = λ b h. absurd (omega arith) }
+
+pub zero-more : {start k x : ℕ} {l : List ℕ} → Spells l (start + 64 * k) 64 x → x ≡ 0 → ZeroWords start k l → ZeroWords start (k + 1) l
+zero-more {start} {k} {x} {l} W e Z = record { zero = λ b h. ⊎-elim (λ (g : b < 64 * k). Z .zero b g) (λ (g : 64 * k ≤ b). here b g h) (less-or-not b (64 * k)) }
+  where
+    here : (b : ℕ) → 64 * k ≤ b → b < 64 * (k + 1) → isSet l (start + b) ≡ false
+    here b g h =
+        let s : start + 64 * k + (b - 64 * k) ≡ start + b = omega arith in
+        let z : isOne x (b - 64 * k) ≡ false = rw e (one-past 0 0 (b - 64 * k) (omega arith) (omega arith)) in
+        rw s at (sym (W .bits (b - 64 * k) (omega arith)) ∙ z)
+
+pub zero-none : (n a : ℕ) {k : ℕ} {apart : List ℕ} → n ≤ 64 * k → ZeroWords (a * n + 0) k apart → NoneApart n apart a
+zero-none n a {k} {apart} h Z = record { none = λ b l. let s : a * n + 0 + b ≡ a * n + b = omega arith in rw s at (Z .zero b (omega arith)) }
 
 -- the places of the two sides of proposition k; the class of what is no disequality is n
 pub record Side (n : ℕ) (leftClasses leftHeights rightClasses rightHeights : List ℕ) (k : ℕ) : Type 0 where

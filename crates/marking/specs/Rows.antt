@@ -12,10 +12,11 @@ use Rattle.lists.specs.Booleans.{and-true, false-true, or-cases, or-second}
 use Rattle.lists.specs.Filled.{same-or-not}
 use Rattle.buckets.specs.Buckets.{NextOf, less-or-not}
 use Rattle.pairbits.specs.Bits.{isSet}
-use Rattle.points.specs.Places.{class}
+use Rattle.points.specs.Places.{class, height}
+use Rattle.points.specs.Homes.{Unique}
 use Rattle.words.specs.Words.{inMask, isOne, one-past, Ored, Put, Without}
 use Rattle.marking.specs.Marks.{Adds, Marking, PairOf, Room, Upto, adds-already, adds-as, marking-done, pair-below, zeros, zero-cells}
-use Rattle.marking.specs.Classes.{PointsDiffer}
+use Rattle.marking.specs.Classes.{NoneApart, PointsDiffer, classesDiffer, other-parts, otherHeight, parts-other}
 
 -- all numbers of a mask are below n
 pub record Below (n : ℕ) (mask : List ℕ) : Type 0 where
@@ -65,21 +66,13 @@ pub record OwnMask (n : ℕ) (points : List ℕ) (a : ℕ) (mask : List ℕ) : T
 pub own-below : {n a : ℕ} {points mask : List ℕ} → OwnMask n points a mask → Below n mask
 own-below M = record { below = λ v e. M .only v e .0 }
 
--- `new` is `old` with the homes of class a in it
-pub record ClassPut (n : ℕ) (points : List ℕ) (a : ℕ) (old new : List ℕ) : Type 0 where
-  pub long : length new ≡ length old
-  pub kept : (v : ℕ) → inMask old v ≡ true → inMask new v ≡ true
-  pub holds : (v : ℕ) → v < n → class points v ≡ a → inMask new v ≡ true
-  pub only : (v : ℕ) → inMask new v ≡ true → (inMask old v ≡ true) ⊎ ((v < n) × (class points v ≡ a))
-
 -- a walk along the chain of class a that has put the homes before t into the mask
-pub record Gathering (n : ℕ) (points : List ℕ) (a t : ℕ) (old new : List ℕ) : Type 0 where
+pub record Gathering (n : ℕ) (points : List ℕ) (a t size : ℕ) (mask : List ℕ) : Type 0 where
   pub upto : t ≤ n
   pub here : t < n → class points t ≡ a
-  pub long : length new ≡ length old
-  pub kept : (v : ℕ) → inMask old v ≡ true → inMask new v ≡ true
-  pub holds : (v : ℕ) → v < t → class points v ≡ a → inMask new v ≡ true
-  pub only : (v : ℕ) → inMask new v ≡ true → (inMask old v ≡ true) ⊎ ((v < n) × (class points v ≡ a))
+  pub long : length mask ≡ size
+  pub holds : (v : ℕ) → v < t → class points v ≡ a → inMask mask v ≡ true
+  pub only : (v : ℕ) → inMask mask v ≡ true → (v < n) × (class points v ≡ a)
 
 pub no-numbers : (size v : ℕ) → inMask (zeros size) v ≡ false
 unfolding inMask
@@ -89,60 +82,62 @@ pub zeros-long : {size : ℕ} {mask : List ℕ} → mask ≡ zeros size → leng
 zeros-long {size} e = ap length e ∙ length-replicate size 0
 
 module _ {n : ℕ} {points : List ℕ} {a : ℕ} where
-  pub gathering-start : {f : ℕ} (mask : List ℕ) → NextOf n (class points) a 0 f → Gathering n points a f mask mask
-  gathering-start {f} mask N = record {
+  pub gathering-start : {f size : ℕ} {mask : List ℕ} → mask ≡ zeros size → NextOf n (class points) a 0 f → Gathering n points a f size mask
+  gathering-start {f} {size} {mask} e N = record {
     upto = N .inside;
     here = N .hit;
-    long = refl;
-    kept = λ v m. m;
+    long = zeros-long e;
     holds = λ v l s. absurd (N .none v (omega arith) l s);
-    only = λ v m. inl m;
+    only = λ v m. false-true (no-numbers size v) (rw e at m);
   }
 
-  pub gathering-more : {t f : ℕ} {old mid new : List ℕ} → t < n → NextOf n (class points) (class points t) (t + 1) f → Gathering n points a t old mid → Put mid t new → Gathering n points a f old new
-  gathering-more {t} {f} {old} {mid} {new} h N G P = record {
+  pub gathering-more : {t f size : ℕ} {old new : List ℕ} → t < n → NextOf n (class points) (class points t) (t + 1) f → Gathering n points a t size old → Put old t new → Gathering n points a f size new
+  gathering-more {t} {f} {size} {old} {new} h N G P = record {
     upto = N .inside;
     here = λ g. N .hit g ∙ G .here h;
     long = P .long ∙ G .long;
-    kept = λ v m. P .bits v ∙ rw (G .kept v m);
     holds = λ v l s. P .bits v ∙ held v l s (less-or-not v t);
-    only = λ v m. ⊎-elim (G .only v) (λ e. let s = eqb-true v t e in rw s (inr (h, G .here h))) (or-cases (inMask mid v) (eqb v t) (sym (P .bits v) ∙ m));
+    only = λ v m. ⊎-elim (G .only v) (λ e. let s = eqb-true v t e in rw s (h, G .here h)) (or-cases (inMask old v) (eqb v t) (sym (P .bits v) ∙ m));
   }
     where
-      held : (v : ℕ) → v < f → class points v ≡ a → (v < t) ⊎ (t ≤ v) → (inMask mid v || eqb v t) ≡ true
+      held : (v : ℕ) → v < f → class points v ≡ a → (v < t) ⊎ (t ≤ v) → (inMask old v || eqb v t) ≡ true
       held v l s (inl b) = rw (G .holds v b s)
       held v l s (inr b) =
-          ⊎-elim (λ (e : v ≡ t). or-second (inMask mid v) (eqb v t) (eq-eqb v t e)) (λ (m : v ≢ t). absurd (N .none v (omega arith) l (s ∙ sym (G .here h)))) (same-or-not v t)
+          ⊎-elim (λ (e : v ≡ t). or-second (inMask old v) (eqb v t) (eq-eqb v t e)) (λ (m : v ≢ t). absurd (N .none v (omega arith) l (s ∙ sym (G .here h)))) (same-or-not v t)
 
-  pub gathering-done : {t : ℕ} {old new : List ℕ} → n ≤ t → Gathering n points a t old new → ClassPut n points a old new
-  gathering-done h G = record { long = G .long; kept = G .kept; holds = λ v l. G .holds v (omega arith); only = G .only }
-
-  pub own-put : {old new : List ℕ} → old ≡ zeros 8 → ClassPut n points a old new → OwnMask n points a new
-  own-put e C = record { holds = C .holds; only = λ v m. ⊎-elim (λ i. false-true (no-numbers 8 v) (rw e at i)) (λ r. r) (C .only v m) }
+  pub gathering-done : {t size : ℕ} {mask : List ℕ} → n ≤ t → Gathering n points a t size mask → OwnMask n points a mask
+  gathering-done h G = record { holds = λ v l. G .holds v (omega arith); only = G .only }
 
 -- the pairs of the homes of class a that differ by their classes
 abbrev pub ClassRows : ℕ → List ℕ → List ℕ → List ℕ → ℕ → ℕ → ℕ → Type 0
 ClassRows n apart points heights a x y = (class points x ≡ a) × PointsDiffer n apart points heights x y
 
--- the number that is left out of the row of i: i itself, unless its class is apart from itself
-unfoldable pub leftOut : ℕ → Bool → ℕ → ℕ
-leftOut n true i = n
-leftOut n false i = i
+-- the row of i, if it is in class a: its pairs with the homes of a mask but itself
+abbrev pub OwnRow : List ℕ → List ℕ → ℕ → ℕ → ℕ → ℕ → Type 0
+OwnRow points mask a i x y = (class points i ≡ a) × MaskPair mask i i x y
 
--- the row of i, if it is in class a: its pairs with the homes of a mask
-abbrev pub ClassRow : ℕ → Bool → List ℕ → List ℕ → ℕ → ℕ → ℕ → ℕ → Type 0
-ClassRow n whole points mask a i x y = (class points i ≡ a) × MaskPair mask i (leftOut n whole i) x y
+module _ (n : ℕ) (apart points heights : List ℕ) (a : ℕ) (mask : List ℕ) (M : OwnMask n points a mask) where
+  -- the homes of a differ from each other: no two of them are at one height
+  pub own-differs : a < n → Unique n points heights → (x y : ℕ) → x < n → y < n → Upto n (OwnRow points mask a) x y → ClassRows n apart points heights a x y
+  unfolding classesDiffer
+  own-differs h U x y hx hy (i, hi, (q, (s, (m, d)))) =
+      let e : class points x ≡ a = rw s q in
+      let c = M .only y m .1 in
+      let l : class points x < n = rw e h in
+      let r = e ∙ sym c in
+      (e, (l, (rw c h, or-second (isSet apart (class points x * n + class points y)) _ (parts-other (class points x) (height heights x) (class points y) (height heights y) r (λ t. d (sym (U .same x y hx hy l r t) ∙ s))))))
 
--- the pairs of the homes of class a with each other
-abbrev pub OwnPair : List ℕ → ℕ → ℕ → ℕ → Type 0
-OwnPair points a x y = (class points x ≡ a) × ((class points y ≡ a) × (y ≢ x))
+  pub other-own : (x y : ℕ) → x < n → y < n → class points x ≡ a → otherHeight (class points x) (height heights x) (class points y) (height heights y) ≡ true → Upto n (OwnRow points mask a) x y
+  other-own x y hx hy e o =
+      let r = other-parts (class points x) (height heights x) (class points y) (height heights y) o in
+      (x, hx, (e, (refl, (M .holds y hy (sym (r .0) ∙ e), λ s. r .1 (rw s)))))
 
-pub own-rows : (n : ℕ) (points : List ℕ) (a : ℕ) {mask old new : List ℕ} → OwnMask n points a mask → Adds n (Upto n (ClassRow n false points mask a)) old new → Adds n (OwnPair points a) old new
-unfolding leftOut
-own-rows n points a {mask} M A =
-    adds-as n (Upto n (ClassRow n false points mask a)) (OwnPair points a) A
-    (λ x y hx hy (i, hi, (q, (s, (m, d)))). (rw s q, (M .only y m .1, λ e. d (e ∙ s))))
-    (λ x y hx hy (e, (f, d)). (x, hx, (e, (refl, (M .holds y hy f, d)))))
+  -- where no class is apart from a, no others differ from them
+  pub own-class : {old new : List ℕ} → a < n → Unique n points heights → NoneApart n apart a → Adds n (Upto n (OwnRow points mask a)) old new → Adds n (ClassRows n apart points heights a) old new
+  unfolding classesDiffer
+  own-class h U N A =
+      adds-as n (Upto n (OwnRow points mask a)) (ClassRows n apart points heights a) A (own-differs h U)
+      (λ x y hx hy (e, (l, (g, o))). ⊎-elim (λ t. false-true (rw e (N .none (class points y) g)) t) (other-own x y hx hy e) (or-cases (isSet apart (class points x * n + class points y)) _ o))
 
 -- a class without homes
 pub empty-class :

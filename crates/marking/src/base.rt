@@ -2,18 +2,22 @@
 use crate::between::mark_between;
 use crate::bits::pair_number;
 use crate::bits::test_pair;
-use crate::far::none_apart;
-use crate::far::put_class;
-use crate::far::put_classes;
-use crate::far::put_group;
+use crate::far::far_homes;
+use crate::far::fill_others;
+use crate::far::fill_selves;
 use crate::notes::Notes;
+use buckets::chain;
 use points::places::index;
 use points::places::linked;
+use types::MOST;
 use types::PropositionNumber;
 use types::TermNumber;
 use words::or_word;
+use words::put;
+use words::word_at;
 use words::word_without;
 ghost use mathlib.Core.Path.{_≡_};
+ghost use mathlib.Core.Bool.{true};
 ghost use Prim.Native.Nat.{_<_, _≤_};
 ghost use Rattle.buckets.specs.Buckets.{Chains};
 ghost use Rattle.lists.specs.Lent.{before, after};
@@ -21,9 +25,9 @@ ghost use Rattle.tables.specs.Limits.{most};
 ghost use Rattle.marking.specs.Marks.{Adds, Inside, Room, Upto, zeros};
 ghost use Rattle.points.specs.Places.{Chained, classSlots, Column};
 ghost use Rattle.points.specs.Homes.{Unique};
-ghost use Rattle.marking.specs.Classes.{classesDiffer, ListedPair, otherHeight, PointsDiffer, Side, Sides};
-ghost use Rattle.marking.specs.Far.{GroupHomes, Present};
-ghost use Rattle.marking.specs.Rows.{Below, ClassRow, ClassRows, leftOut, MaskPair, OwnMask, OwnPair};
+ghost use Rattle.marking.specs.Classes.{classesDiffer, ListedPair, NoneApart, otherHeight, PointsDiffer, Side, Sides};
+ghost use Rattle.marking.specs.Far.{FarRow, Split};
+ghost use Rattle.marking.specs.Rows.{Below, ClassRows, MaskPair, OwnMask, OwnRow};
 
 // Whether two places are in one class at different heights.
 pub(crate) fn other_height(a: u32, p: u64, b: u32, q: u64) -> bool
@@ -41,6 +45,20 @@ pub fn classes_differ(n: usize, a: u32, p: u64, b: u32, q: u64, apart: &[u8]) ->
     apart_classes | other_height(a, p, b, q)
 }
 
+// Whether no class is apart from class a: all words that hold its bits are 0.
+fn none_apart(n: usize, a: usize, apart: &[u8]) -> bool
+    requires { ⌜ (n ≤ most) × (a < n) ⌝ }
+    ensures { λ r. ⌜ (r ≡ true → NoneApart n (before apart) a) ⌝ }
+{
+    let start = pair_number(n, TermNumber(a), TermNumber(0));
+    for w in 0..(n + 63) / 64 {
+        if word_at(apart, start + 64 * w) != 0 {
+            return false;
+        }
+    }
+    true
+}
+
 // Puts the homes of class a into a mask. Public for the crates `expansion` and `settling`.
 pub fn own_homes(
     n: usize,
@@ -53,7 +71,11 @@ pub fn own_homes(
     requires { ⌜ Chains n classSlots (now points) (now «class_first») (now «class_next») × ((n ≤ most) × ((a < n) × (now own ≡ zeros 8))) ⌝ }
     ensures { λ _. ⌜ OwnMask n (before points) a (after own) ⌝ }
 {
-    put_class(n, a, points, class_first, class_next, own);
+    let mut t = linked(class_first, a);
+    while t < n {
+        put(own, t);
+        t = linked(class_next, t);
+    }
 }
 
 // The pairs of i with the terms of a mask but j, by words. Public for the crates `expansion` and `placing`.
@@ -67,49 +89,44 @@ pub fn mark_masked(n: usize, i: TermNumber, j: usize, mask: &[u64], pairs: &mut 
     }
 }
 
-// The number that is left out of the row of i: i itself, unless its class is apart from itself.
-fn left_out(n: usize, whole: bool, i: usize) -> usize
-    ensures { λ r. ⌜ r ≡ leftOut n whole i ⌝ }
-{
-    if whole { n } else { i }
-}
-
-// The pairs of the homes of class a with those of a mask.
-fn mark_rows(
+// The pairs of the homes of class a, which are those of the mask, with each other.
+fn mark_own(
     n: usize,
     a: usize,
-    whole: bool,
-    mask: &[u64],
+    own: &[u64],
     points: &[u32],
     class_first: &[u16],
     class_next: &[u16],
     pairs: &mut [u8],
 )
-    requires { ⌜ Chains n classSlots (now points) (now «class_first») (now «class_next») × ((n ≤ most) × ((a < n) × (Below n (now mask) × Room n (now pairs)))) ⌝ }
-    ensures { λ _. ⌜ Adds n (Upto n (ClassRow n whole (before points) (before mask) a)) (before pairs) (after pairs) ⌝ }
+    requires { ⌜ Chains n classSlots (now points) (now «class_first») (now «class_next») × ((n ≤ most) × ((a < n) × (Below n (now own) × Room n (now pairs)))) ⌝ }
+    ensures { λ _. ⌜ Adds n (Upto n (OwnRow (before points) (before own) a)) (before pairs) (after pairs) ⌝ }
 {
     let mut i = linked(class_first, a);
     while i < n {
-        mark_masked(n, TermNumber(i), left_out(n, whole, i), mask, pairs);
+        mark_masked(n, TermNumber(i), i, own, pairs);
         i = linked(class_next, i);
     }
 }
 
-// The pairs of the homes of class a with each other.
-fn mark_alone(
+// The pairs of the homes of class a with those of a mask.
+fn mark_far(
     n: usize,
     a: usize,
+    far: &[u64],
     points: &[u32],
     class_first: &[u16],
     class_next: &[u16],
     pairs: &mut [u8],
 )
-    requires { ⌜ Chains n classSlots (now points) (now «class_first») (now «class_next») × ((n ≤ most) × ((a < n) × Room n (now pairs))) ⌝ }
-    ensures { λ _. ⌜ Adds n (OwnPair (before points) a) (before pairs) (after pairs) ⌝ }
+    requires { ⌜ Chains n classSlots (now points) (now «class_first») (now «class_next») × ((n ≤ most) × ((a < n) × (Below n (now far) × Room n (now pairs)))) ⌝ }
+    ensures { λ _. ⌜ Adds n (Upto n (FarRow n (before points) (before far) a)) (before pairs) (after pairs) ⌝ }
 {
-    let mut own = [0u64; 8];
-    own_homes(n, a, points, class_first, class_next, &mut own);
-    mark_rows(n, a, false, &own, points, class_first, class_next, pairs);
+    let mut i = linked(class_first, a);
+    while i < n {
+        mark_masked(n, TermNumber(i), n, far, pairs);
+        i = linked(class_next, i);
+    }
 }
 
 // The pairs of the homes of class a that differ by their classes: with each other, as no two of them are at one place, and with the homes
@@ -117,71 +134,76 @@ fn mark_alone(
 fn mark_class(
     n: usize,
     a: usize,
-    present: &[u64],
+    selves: &[u64],
+    others: &[u32],
+    other_first: &[u16],
+    other_next: &[u16],
     points: &[u32],
     heights: &[u64],
     apart: &[u8],
     class_first: &[u16],
     class_next: &[u16],
-    classes: &mut [u64],
-    homes: &mut [u64],
     pairs: &mut [u8],
 )
     requires { ⌜ Column n (now points) (now heights) × (Unique n (now points) (now heights) × (Chains n classSlots (now points) (now «class_first») (now «class_next») × ((a < n) × (Room n (now apart) × Room n (now pairs))))) ⌝ }
-    requires { ⌜ Present n n (now points) (now present) × GroupHomes n (now points) (now classes) (now homes) ⌝ }
-    ensures { λ _. ⌜ Adds n (ClassRows n (before apart) (before points) (before heights) a) (before pairs) (after pairs) × GroupHomes n (before points) (after classes) (after homes) ⌝ }
+    requires { ⌜ Split n (now points) (now selves) (now others) (now «other_first») (now «other_next») ⌝ }
+    ensures { λ _. ⌜ Adds n (ClassRows n (before apart) (before points) (before heights) a) (before pairs) (after pairs) ⌝ }
 {
     if n <= linked(class_first, a) {
         return;
     }
-    if none_apart(n, a, present, apart) {
-        mark_alone(n, a, points, class_first, class_next, pairs);
+    let mut own = [0u64; 8];
+    own_homes(n, a, points, class_first, class_next, &mut own);
+    mark_own(n, a, &own, points, class_first, class_next, pairs);
+    if none_apart(n, a, apart) {
         return;
     }
-    put_group(
+    let mut far = [0u64; 8];
+    far_homes(
         n,
         a,
-        present,
+        selves,
+        others,
+        other_first,
+        other_next,
         points,
         apart,
-        class_first,
-        class_next,
-        classes,
-        homes,
+        &mut far,
     );
-    let whole = test_pair(n, TermNumber(a), TermNumber(a), apart);
-    mark_rows(n, a, whole, homes, points, class_first, class_next, pairs);
+    mark_far(n, a, &far, points, class_first, class_next, pairs);
 }
 
 // The same of all classes.
 fn mark_each(
     n: usize,
-    present: &[u64],
+    selves: &[u64],
+    others: &[u32],
+    other_first: &[u16],
+    other_next: &[u16],
     points: &[u32],
     heights: &[u64],
     apart: &[u8],
     class_first: &[u16],
     class_next: &[u16],
-    classes: &mut [u64],
-    homes: &mut [u64],
     pairs: &mut [u8],
 )
     requires { ⌜ Column n (now points) (now heights) × (Unique n (now points) (now heights) × (Chains n classSlots (now points) (now «class_first») (now «class_next») × (Room n (now apart) × Room n (now pairs)))) ⌝ }
-    requires { ⌜ Present n n (now points) (now present) × GroupHomes n (now points) (now classes) (now homes) ⌝ }
+    requires { ⌜ Split n (now points) (now selves) (now others) (now «other_first») (now «other_next») ⌝ }
     ensures { λ _. ⌜ Adds n (PointsDiffer n (before apart) (before points) (before heights)) (before pairs) (after pairs) ⌝ }
 {
     for a in 0..n {
         mark_class(
             n,
             a,
-            present,
+            selves,
+            others,
+            other_first,
+            other_next,
             points,
             heights,
             apart,
             class_first,
             class_next,
-            classes,
-            homes,
             pairs,
         );
     }
@@ -200,20 +222,24 @@ pub fn mark_classes(
     requires { ⌜ Column n (now points) (now heights) × (Unique n (now points) (now heights) × (Chains n classSlots (now points) (now «class_first») (now «class_next») × (Room n (now apart) × Room n (now pairs)))) ⌝ }
     ensures { λ _. ⌜ Adds n (PointsDiffer n (before apart) (before points) (before heights)) (before pairs) (after pairs) ⌝ }
 {
-    let mut present = [0u64; 8];
-    let mut classes = [0u64; 8];
-    let mut homes = [0u64; 8];
-    put_classes(n, points, &mut present);
+    let mut selves = [0u64; 8];
+    let mut others = [0u32; MOST];
+    let mut other_first = [0u16; 2];
+    let mut other_next = [0u16; MOST];
+    fill_selves(n, points, &mut selves);
+    fill_others(n, points, &mut others);
+    chain(n, &others, &mut other_first, &mut other_next);
     mark_each(
         n,
-        &present,
+        &selves,
+        &others,
+        &other_first,
+        &other_next,
         points,
         heights,
         apart,
         class_first,
         class_next,
-        &mut classes,
-        &mut homes,
         pairs,
     );
 }

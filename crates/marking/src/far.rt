@@ -1,138 +1,127 @@
-// The homes of a class and of the classes apart from it, as a mask, beside a mask of these classes. The homes stay as they are while these
-// classes are the same: so are those of all variables.
+// The homes whose classes are apart from a class, as a mask. The bit of a class stands at its number in the table of apart classes: a home
+// with that number is found by words, and any other one by its class.
 use crate::bits::pair_number;
+use crate::bits::test_pair;
 use points::places::index;
 use points::places::linked;
 use types::TermNumber;
 use words::common;
-use words::next_common;
 use words::put;
-use words::word_with;
 ghost use mathlib.Core.Path.{_≡_};
-ghost use mathlib.Core.Bool.{true};
-ghost use Prim.Native.Nat.{_*_, _<_, _≤_};
+ghost use Prim.Native.Nat.{_+_, _*_, _<_, _≤_};
 ghost use lib.ListN.{length};
-ghost use Rattle.buckets.specs.Buckets.{Chains};
+ghost use Rattle.lists.specs.Filled.{Filled};
 ghost use Rattle.lists.specs.Lent.{before, after};
-ghost use Rattle.points.specs.Places.{classSlots};
+ghost use Rattle.outcome.specs.PairBits.{bitValue};
+ghost use Rattle.pairbits.specs.Bits.{isSet};
+ghost use Rattle.points.specs.Places.{class};
 ghost use Rattle.tables.specs.Limits.{most};
-ghost use Rattle.marking.specs.Marks.{Inside};
-ghost use Rattle.marking.specs.Rows.{ClassPut};
-ghost use Rattle.marking.specs.Far.{ApartPut, Cleared, GroupHomes, GroupMask, NoneApart, Present, Renewed};
+ghost use Rattle.marking.specs.Marks.{Inside, Room, zeros};
+ghost use Rattle.marking.specs.Far.{FarMask, FarOthers, FarSelves, isOther, otherKey, PutIf, Selves, Split};
 
-// Puts the homes of class a into a mask.
-pub(crate) fn put_class(
-    n: usize,
-    a: usize,
-    points: &[u32],
-    class_first: &[u16],
-    class_next: &[u16],
-    mask: &mut [u64],
-)
-    requires { ⌜ Chains n classSlots (now points) (now «class_first») (now «class_next») × (Inside n a a × (length (now mask) ≡ 8)) ⌝ }
-    ensures { λ _. ⌜ ClassPut n (before points) a (before mask) (after mask) ⌝ }
+// 1 if t is a home that does not have the number of its class, else 0.
+fn other_key(n: usize, t: usize, class: u32) -> u32
+    ensures { λ r. ⌜ r ≡ bitValue (isOther n class t) ⌝ }
 {
-    let mut t = linked(class_first, a);
-    while t < n {
-        put(mask, t);
-        t = linked(class_next, t);
+    if (index(class) < n) & (index(class) != t) {
+        1
+    } else {
+        0
     }
 }
 
-// Puts the classes of homes into a mask.
-pub(crate) fn put_classes(n: usize, points: &[u32], present: &mut [u64])
-    requires { ⌜ (n ≤ most) × ((n ≤ length (now points)) × (length (now present) ≡ 8)) ⌝ }
-    ensures { λ _. ⌜ Present n n (before points) (after present) ⌝ }
+// These keys of all terms.
+pub(crate) fn fill_others(n: usize, points: &[u32], others: &mut [u32])
+    requires { ⌜ (n ≤ length (now points)) × (n ≤ length (now others)) ⌝ }
+    ensures { λ _. ⌜ Filled (otherKey n (before points)) 0 n (length (before others)) (after others) ⌝ }
 {
     for t in 0..n {
-        let c = index(points[t]);
-        if n <= c {
+        others[t] = other_key(n, t, points[t]);
+    }
+}
+
+// Puts the homes that have the number of their class into a mask.
+pub(crate) fn fill_selves(n: usize, points: &[u32], selves: &mut [u64])
+    requires { ⌜ (n ≤ most) × ((n ≤ length (now points)) × (now selves ≡ zeros 8)) ⌝ }
+    ensures { λ _. ⌜ Selves n n (before points) (after selves) ⌝ }
+{
+    for t in 0..n {
+        if index(points[t]) != t {
             continue;
         }
-        put(present, c);
+        put(selves, t);
     }
 }
 
-// Whether no class of a home is apart from class a.
-pub(crate) fn none_apart(n: usize, a: usize, present: &[u64], apart: &[u8]) -> bool
-    requires { ⌜ (n ≤ most) × (a < n) ⌝ }
-    ensures { λ r. ⌜ (r ≡ true → NoneApart (a * n) (before apart) (before present) 8) ⌝ }
+// Puts those whose classes are apart from class a into a mask.
+fn far_selves(n: usize, a: usize, selves: &[u64], apart: &[u8], far: &mut [u64])
+    requires { ⌜ (n ≤ most) × ((a < n) × (length (now far) ≡ 8)) ⌝ }
+    ensures { λ _. ⌜ FarSelves (a * n) (before apart) (before selves) 8 (after far) ⌝ }
 {
     let start = pair_number(n, TermNumber(a), TermNumber(0));
     for w in 0..8 {
-        if common(start, apart, present, 64 * w) != 0 {
-            return false;
-        }
+        far[w] = common(start, apart, selves, 64 * w);
     }
-    true
 }
 
-// Makes the mask that of class a and the classes apart from it, and says whether it was.
-fn renew(n: usize, a: usize, present: &[u64], apart: &[u8], classes: &mut [u64]) -> bool
-    requires { ⌜ (n ≤ most) × ((a < n) × (length (now classes) ≡ 8)) ⌝ }
-    ensures { λ r. ⌜ Renewed (a * n) a (before apart) (before present) (before classes) 8 r (after classes) ⌝ }
+// Puts t into a mask, if its class is apart from class a.
+fn put_far(n: usize, a: usize, t: TermNumber, points: &[u32], apart: &[u8], far: &mut [u64])
+    requires { ⌜ Inside n a (t .0) × ((n ≤ length (now points)) × ((class (now points) (t .0) < n) × (Room n (now apart) × (length (now far) ≡ 8)))) ⌝ }
+    ensures { λ _. ⌜ PutIf (isSet (before apart) (a * n + class (before points) (t .0))) (before far) (t .0) (after far) ⌝ }
 {
-    let start = pair_number(n, TermNumber(a), TermNumber(0));
-    let mut same = true;
-    for w in 0..8 {
-        let word = word_with(common(start, apart, present, 64 * w), w, a);
-        same = same & (classes[w] == word);
-        classes[w] = word;
-    }
-    same
-}
-
-// Takes all numbers out of a mask.
-fn clear(mask: &mut [u64])
-    requires { ⌜ length (now mask) ≡ 8 ⌝ }
-    ensures { λ _. ⌜ Cleared 8 (after mask) ⌝ }
-{
-    for w in 0..8 {
-        mask[w] = 0;
+    let k = t.0;
+    if test_pair(n, TermNumber(a), TermNumber(index(points[k])), apart) {
+        put(far, k);
     }
 }
 
-// Puts the homes of the classes apart from class a into a mask.
-fn put_apart(
+// Puts the other homes whose classes are apart from class a into a mask.
+fn far_others(
     n: usize,
     a: usize,
-    present: &[u64],
+    selves: &[u64],
+    others: &[u32],
+    other_first: &[u16],
+    other_next: &[u16],
     points: &[u32],
     apart: &[u8],
-    class_first: &[u16],
-    class_next: &[u16],
-    homes: &mut [u64],
+    far: &mut [u64],
 )
-    requires { ⌜ Chains n classSlots (now points) (now «class_first») (now «class_next») × (Inside n a a × (length (now homes) ≡ 8)) ⌝ }
-    ensures { λ _. ⌜ ApartPut n a (before apart) (before present) (before points) n (before homes) (after homes) ⌝ }
+    requires { ⌜ Split n (now points) (now selves) (now others) (now «other_first») (now «other_next») × (Inside n a a × ((n ≤ length (now points)) × (Room n (now apart) × (length (now far) ≡ 8)))) ⌝ }
+    ensures { λ _. ⌜ FarOthers n a (before apart) (before points) n (before far) (after far) ⌝ }
 {
-    let start = pair_number(n, TermNumber(a), TermNumber(0));
-    let mut c = next_common(n, start, apart, present, 0);
-    while c < n {
-        put_class(n, c, points, class_first, class_next, homes);
-        c = next_common(n, start, apart, present, c + 1);
+    let mut t = linked(other_first, 1);
+    while t < n {
+        put_far(n, a, TermNumber(t), points, apart, far);
+        t = linked(other_next, t);
     }
 }
 
-// Puts the homes of class a, and of the classes apart from it, into a mask, unless that is what it holds.
-pub(crate) fn put_group(
+// Puts all homes whose classes are apart from class a into a mask.
+pub(crate) fn far_homes(
     n: usize,
     a: usize,
-    present: &[u64],
+    selves: &[u64],
+    others: &[u32],
+    other_first: &[u16],
+    other_next: &[u16],
     points: &[u32],
     apart: &[u8],
-    class_first: &[u16],
-    class_next: &[u16],
-    classes: &mut [u64],
-    homes: &mut [u64],
+    far: &mut [u64],
 )
-    requires { ⌜ Chains n classSlots (now points) (now «class_first») (now «class_next») × (Inside n a a × (Present n n (now points) (now present) × GroupHomes n (now points) (now classes) (now homes))) ⌝ }
-    ensures { λ _. ⌜ GroupMask n (before apart) (before points) a (after homes) × GroupHomes n (before points) (after classes) (after homes) ⌝ }
+    requires { ⌜ Split n (now points) (now selves) (now others) (now «other_first») (now «other_next») × (Inside n a a × ((n ≤ length (now points)) × (Room n (now apart) × (length (now far) ≡ 8)))) ⌝ }
+    ensures { λ _. ⌜ FarMask n (before apart) (before points) a (after far) ⌝ }
 {
-    if renew(n, a, present, apart, classes) {
-        return;
-    }
-    clear(homes);
-    put_class(n, a, points, class_first, class_next, homes);
-    put_apart(n, a, present, points, apart, class_first, class_next, homes);
+    far_selves(n, a, selves, apart, far);
+    far_others(
+        n,
+        a,
+        selves,
+        others,
+        other_first,
+        other_next,
+        points,
+        apart,
+        far,
+    );
 }

@@ -438,20 +438,6 @@ pub mask-past : (mask : List ℕ) (v : ℕ) → length mask ≤ v / 64 → inMas
 unfolding inMask
 mask-past mask v h = rw (List·getD-eq-default mask 0 h) (one-past 0 0 (v % 64) (omega arith) (omega arith))
 
--- r is word w of a mask, with number j if that is in it
-pub record With (x w j r : ℕ) : Type 0 where
-  pub bits : (b : ℕ) → b < 64 → isOne r b ≡ (isOne x b || eqb (64 * w + b) j)
-
-pub with-other : (x w j : ℕ) → j / 64 ≢ w → With x w j x
-with-other x w j m = record { bits = λ b h. rw (ne-eqb (64 * w + b) j (λ f. m (omega arith))) (sym (or-none (isOne x b))) }
-
-pub with-bit : (x w j : ℕ) → j / 64 ≡ w → With x w j (bitOr x (1 * 2 ^ (j % 64) % 2 ^ 64))
-with-bit x w j s = record { bits = λ b h. one-or x (1 * 2 ^ (j % 64) % 2 ^ 64) b ∙ rw (one-bit (j % 64) b (omega arith) h, same b h (eqb b (j % 64)) refl) }
-  where
-    same : (b : ℕ) → b < 64 → (t : Bool) → eqb b (j % 64) ≡ t → eqb (64 * w + b) j ≡ t
-    same b h true e = eq-eqb (64 * w + b) j (omega (arith, eqb-true b (j % 64) e))
-    same b h false e = let n = eqb-false b (j % 64) e in ne-eqb (64 * w + b) j (λ f. n (omega arith))
-
 -- r is word w of a mask, without number j
 pub record Without (mask : List ℕ) (w j r : ℕ) : Type 0 where
   pub bits : (v : ℕ) → v / 64 ≡ w → isOne r (v % 64) ≡ (inMask mask v && not (eqb v j))
@@ -563,59 +549,6 @@ common-is {start} {v} {x} {m} {table} {mask} S e h = record {
     part : (b : ℕ) → b < 64 → isOne x b ≡ true → isOne m (v % 64 + b) ≡ true → (t : Bool) → ltb (v % 64 + b) 64 ≡ t → (v % 64 + b < 64) × ((isSet table (start + v + b) ≡ true) × (inMask mask (v + b) ≡ true))
     part b hb s i true t = let g = ltb-true (v % 64 + b) 64 t in (g, (sym (S .bits b hb) ∙ s, mask-at mask v b g ∙ rw (← e) i))
     part b hb s i false t = false-true (one-past m 64 (v % 64 + b) h (ltb-false (v % 64 + b) 64 t)) i
-
--- the first number from `from` on that is in the mask and whose bit in the row from bit `start` on is set; not below n where there is none
-pub record NextCommon (n start : ℕ) (table mask : List ℕ) (from r : ℕ) : Type 0 where
-  pub after : from ≤ r
-  pub few : r ≤ n + 64
-  pub hit : r < n → isSet table (start + r) ≡ true
-  pub none : (v : ℕ) → from ≤ v → v < r → isSet table (start + v) ≡ true → inMask mask v ≡ true → ⊥
-
--- a search that has come to v
-pub record Searched (n start : ℕ) (table mask : List ℕ) (from v : ℕ) : Type 0 where
-  pub after : from ≤ v
-  pub few : v ≤ n + 64
-  pub none : (u : ℕ) → from ≤ u → u < v → isSet table (start + u) ≡ true → inMask mask u ≡ true → ⊥
-
-pub searched-start : {n start : ℕ} {table mask : List ℕ} {from : ℕ} → from ≤ n + 64 → Searched n start table mask from from
-searched-start h = record { after = omega arith; few = h; none = λ u h g. absurd (omega arith) }
-
-module _ {n start : ℕ} {table mask : List ℕ} {from v : ℕ} where
-  pub searched-end : n ≤ v → Searched n start table mask from v → NextCommon n start table mask from v
-  searched-end h S = record { after = S .after; few = S .few; hit = λ g. absurd (omega arith); none = S .none }
-
-  module _ (S : Searched n start table mask from v) (h : v < n) {x b : ℕ} (C : Common start table mask v x) (L : Lowest x b) where
-    -- none from v on and below v + b
-    before-bit : (u : ℕ) → v ≤ u → u < v + b → v % 64 + (u - v) < 64 → isSet table (start + u) ≡ true → inMask mask u ≡ true → ⊥
-    before-bit u hu hb hw s i =
-        let e : v + (u - v) ≡ u = omega arith in
-        let f : start + v + (u - v) ≡ start + u = omega arith in
-        false-true (L .below (u - v) (omega arith) (omega arith)) (C .all (u - v) hw (rw f s) (rw e i))
-
-    by-place : (u w : ℕ) → (v ≤ u → u < w → isSet table (start + u) ≡ true → inMask mask u ≡ true → ⊥) → from ≤ u → u < w → isSet table (start + u) ≡ true → inMask mask u ≡ true → ⊥
-    by-place u w f a g s i = go (ltb u v) refl
-      where
-        go : (t : Bool) → ltb u v ≡ t → ⊥
-        go true e = S .none u a (ltb-true u v e) s i
-        go false e = f (ltb-false u v e) g s i
-
-    pub next-found : b < 64 → NextCommon n start table mask from (v + b)
-    next-found hb =
-        let c = C .both b hb (L .hit hb) in
-        let e : start + v + b ≡ start + (v + b) = omega arith in
-        record {
-          after = omega (arith, S .after);
-          few = omega (arith, S .few);
-          hit = λ _. rw e at (c .1 .0);
-          none = λ u a g s i. by-place u (v + b) (λ hv hu. before-bit u hv hu (omega (arith, c .0))) a g s i;
-        }
-
-    pub searched-more : 64 ≤ b → Searched n start table mask from ((v / 64 + 1) * 64)
-    searched-more hb = record {
-      after = omega (arith, S .after);
-      few = omega arith;
-      none = λ u a g s i. by-place u ((v / 64 + 1) * 64) (λ hv hu. before-bit u hv (omega arith) (omega arith)) a g s i;
-    }
 
 -- the first w words of a mask are those of x without the numbers of y
 pub record Rest (x y : List ℕ) (w : ℕ) (rest : List ℕ) : Type 0 where

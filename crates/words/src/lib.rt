@@ -9,7 +9,7 @@ ghost use lib.ListN.{length, getD};
 ghost use Rattle.lists.specs.Lent.{before, after};
 ghost use Rattle.outcome.specs.PairBits.{bitValue};
 ghost use Rattle.pairbits.specs.Bits.{isSet};
-ghost use Rattle.words.specs.Words.{Common, inMask, Lowest, NextCommon, NextOne, Ored, Put, Rest, Spells, With, Without};
+ghost use Rattle.words.specs.Words.{Common, inMask, Lowest, NextOne, Ored, Put, Rest, Spells, Without};
 
 fn wide(byte: u8) -> u64
     ensures { λ r. ⌜ (r ≡ byte) × (r < 256) ⌝ }
@@ -194,16 +194,6 @@ pub fn contains(mask: &[u64], j: usize) -> bool
     (mask_word(mask, j / 64) >> (j % 64)) % 2 == 1
 }
 
-// Word w of a mask, with number j if that is in it.
-pub fn word_with(word: u64, w: usize, j: usize) -> u64
-    ensures { λ r. ⌜ With word w j r ⌝ }
-{
-    if j / 64 != w {
-        return word;
-    }
-    word | (1u64 << (j % 64))
-}
-
 // Word w of a mask, without number j.
 pub fn word_without(mask: &[u64], w: usize, j: usize) -> u64
     ensures { λ r. ⌜ Without (before mask) w j r ⌝ }
@@ -268,23 +258,6 @@ pub fn common(start: usize, table: &[u8], mask: &[u64], v: usize) -> u64
     ensures { λ r. ⌜ Common start (before table) (before mask) v r ⌝ }
 {
     word_at(table, start + v) & (mask_word(mask, v / 64) >> (v % 64))
-}
-
-// The first number from `from` on and below n that is in the mask, and whose bit is set in the row from bit `start` on; one that is not
-// below n where there is none.
-pub fn next_common(n: usize, start: usize, table: &[u8], mask: &[u64], from: usize) -> usize
-    requires { ⌜ (start + n + 128 < 2 ^ 64) × (from ≤ n + 64) ⌝ }
-    ensures { λ r. ⌜ NextCommon n start (before table) (before mask) from r ⌝ }
-{
-    let mut v = from;
-    while v < n {
-        let b = lowest(common(start, table, mask, v));
-        if b < 64 {
-            return v + b;
-        }
-        v = (v / 64 + 1) * 64;
-    }
-    v
 }
 
 // The numbers of one mask that are not in another.

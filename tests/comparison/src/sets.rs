@@ -317,6 +317,34 @@ fn first_slot(offset: u32) -> u64 {
     ((product ^ (product >> 32)) & 0xFFFF_FFFF) >> 20
 }
 
+/// Variables, each apart from one auxiliary of its own too.
+pub fn apart_from_one(size: usize) -> Set {
+    let mut set = Set::default();
+    for k in 0..size {
+        set.term(if k < size / 2 { 1 } else { 2 }, k, 0);
+    }
+    for k in 0..size / 2 {
+        set.proposition(0x13, k, 0, size / 2 + k);
+    }
+    set
+}
+
+/// Variables, each read at three offsets, into one class: all values are different, and lead to nothing, as the variables are apart.
+pub fn variables_read(size: usize) -> Set {
+    let mut set = Set::default();
+    let variables = size / 4;
+    for k in 0..variables {
+        set.term(1, k, 0);
+    }
+    for k in 0..size - variables {
+        let read = set.term(3, k % variables, 8 * (k / variables) as i32);
+        if k > 0 {
+            set.proposition(0x11, read, 4, read - 1);
+        }
+    }
+    set
+}
+
 /// Random terms and propositions, contradictory as a rule.
 pub fn tangle(r: &mut Numbers, size: usize) -> Set {
     let mut set = Set::default();

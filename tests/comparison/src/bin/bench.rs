@@ -1,4 +1,4 @@
-//! The proved solver beside the rival, in one run: the total over the 200 full sets; the time of each on sets of 35 families, its ratio and
+//! The proved solver beside the rival, in one run: the total over the 200 full sets; the time of each on sets of 37 families, its ratio and
 //! how it grows from 128 to 256 to 512 terms, for a whole solve without blame and for the verdict alone; contradictory full sets with blame
 //! and without, as multiples of one verdict on them; and the proved reader beside the second solver's on full texts.
 //!
@@ -179,7 +179,7 @@ fn families_table(call: &str, families: &[Family], of: fn(&Family) -> &[Measured
     table(&head, &rows)
 }
 
-const FAMILIES: [(&str, fn(&mut Numbers, usize) -> Set); 35] = [
+const FAMILIES: [(&str, fn(&mut Numbers, usize) -> Set); 37] = [
     ("chains", |_, size| sets::chains(size)),
     ("tied chains", |_, size| sets::tied_chains(size)),
     ("classes", sets::classes),
@@ -191,6 +191,8 @@ const FAMILIES: [(&str, fn(&mut Numbers, usize) -> Set); 35] = [
     ("listed twice", |_, size| sets::listed_twice(size)),
     ("twice, in cycle", |_, size| sets::listed_twice_in_a_cycle(size)),
     ("one slot", |_, size| sets::one_slot(size)),
+    ("apart from one", |_, size| sets::apart_from_one(size)),
+    ("variables read", |_, size| sets::variables_read(size)),
     // differences that lead on
     ("walked chains", |_, size| sets::walked_chains(size, 1)),
     ("walked, twice", |_, size| sets::walked_chains(size, 2)),
