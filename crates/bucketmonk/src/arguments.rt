@@ -9,7 +9,7 @@ use crate::calls::{put, write_bytes};
 const SHOWN: usize = 64;
 
 // What an argument asks for.
-#[derive(Drop)]
+#[derive(Clone, Copy)]
 pub(crate) enum Request {
     Help,
     Version,

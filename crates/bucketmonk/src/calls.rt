@@ -5,7 +5,7 @@ ghost use Rattle.lists.specs.Lent.{before, after};
 ghost use Rattle.bucketmonk.specs.Calls.{Within};
 
 // What came of a call, or of several for one buffer.
-#[derive(Drop)]
+#[derive(Clone, Copy)]
 pub(crate) enum Moved {
     // So many bytes were read or written.
     Bytes(usize),

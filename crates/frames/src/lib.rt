@@ -7,7 +7,7 @@ pub mod take;
 use types::Refusal;
 
 // What a frame meets after the records read so far.
-#[derive(Drop)]
+#[derive(Clone, Copy)]
 pub enum Taken {
     Accepted,
     Refused(Refusal),

@@ -7,7 +7,7 @@ ghost use Rattle.text.specs.Lines.{digit, digit_of_value, bytes_of, big, signed}
 ghost use Rattle.hexadecimal.specs.Spelling.{spelled, pair_byte};
 
 // The value of one digit, or of two.
-#[derive(Drop)]
+#[derive(Clone, Copy)]
 pub(crate) enum Spelled {
     Value(u8),
     Bad,

@@ -32,7 +32,7 @@ module _ (P Q : Placement) (from : ℕ) (d : ℤ) (to : ℕ) (h : to < from) whe
       let ih = weight_at_most n (fewer n R) in
       ⊎_elim
       (λ (e : P.block n ≡ from). omega (arith, ih, R.moved_block (omega arith) e))
-      (λ (m : P.block n ≢ from). omega (arith, ih, R.Kept-Block (omega arith) m))
+      (λ (m : P.block n ≢ from). omega (arith, ih, R.kept_block (omega arith) m))
       (same_or_not (P.block n) from)
 
   weight_less : (n : ℕ) → Relabelled n P Q from d to → (a : ℕ) → a < n → P.block a ≡ from → weight n Q < weight n P
@@ -45,7 +45,7 @@ module _ (P Q : Placement) (from : ℕ) (d : ℤ) (to : ℕ) (h : to < from) whe
       let ih = weight_less n (fewer n R) a (omega arith) e in
       ⊎_elim
       (λ (f : P.block n ≡ from). omega (arith, ih, R.moved_block (omega arith) f))
-      (λ (k : P.block n ≢ from). omega (arith, ih, R.Kept-Block (omega arith) k))
+      (λ (k : P.block n ≢ from). omega (arith, ih, R.kept_block (omega arith) k))
       (same_or_not (P.block n) from))
       (same_or_not a n)
 

@@ -22,14 +22,14 @@ use types::{DEREF, MOST, TermNumber, index};
 const NUMBERS: u64 = MOST as u64;
 
 // What a look finds: two dereferences of one address with different labels, or none.
-#[derive(Drop)]
+#[derive(Clone, Copy)]
 pub enum Look {
     Pair(TermNumber, TermNumber),
     Closed,
 }
 
 // What a test of neighbours in the order finds: a pair as above; that keys do not fall and labels agree; or neither.
-#[derive(Drop)]
+#[derive(Clone, Copy)]
 enum Neighbours {
     Pair(TermNumber, TermNumber),
     Agree,

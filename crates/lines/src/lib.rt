@@ -4,7 +4,7 @@ pub mod line;
 use types::{PropositionRecord, QuestionRecord, TermRecord};
 
 // What one line says.
-#[derive(Drop)]
+#[derive(Clone, Copy)]
 pub enum Frame {
     Term(TermRecord),
     Proposition(PropositionRecord),

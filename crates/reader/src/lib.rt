@@ -12,21 +12,21 @@ use tables::{PropositionRow, QuestionRow, TermRow};
 use types::{Counts, Fault, MOST, ReadResult, Refusal};
 
 // Where a faulty line stands in a text.
-#[derive(Drop)]
+#[derive(Clone, Copy)]
 pub struct FaultyPart {
     pub start: usize,
     pub size: usize,
 }
 
 // What a line leaves: its refusal, or the counts with its record.
-#[derive(Drop)]
+#[derive(Clone, Copy)]
 pub(crate) enum Next {
     Refused(Refusal),
     Accepted(Counts),
 }
 
 // What a whole text leaves: the counts of its records, or the first fault and its line.
-#[derive(Drop)]
+#[derive(Clone, Copy)]
 pub(crate) enum Loaded {
     Accepted(Counts),
     Refused(Fault, FaultyPart),

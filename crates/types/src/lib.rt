@@ -30,14 +30,14 @@ pub const ATOMS: u64 = 65536;
 pub const OFFSETS: i64 = 2147483648;
 
 // The verdict on an accepted set.
-#[derive(Drop)]
+#[derive(Clone, Copy)]
 pub enum Verdict {
     Satisfiable,
     Contradiction,
 }
 
 // The answer to a question.
-#[derive(Drop)]
+#[derive(Clone, Copy)]
 pub enum Answer {
     Neither,
     Equal,
@@ -46,7 +46,7 @@ pub enum Answer {
 }
 
 // Why tables or a text are refused.
-#[derive(Drop)]
+#[derive(Clone, Copy)]
 pub enum Refusal {
     TooManyTerms,
     TooManyPropositions,
@@ -68,21 +68,21 @@ pub enum Refusal {
 }
 
 // A refusal and its place.
-#[derive(Drop)]
+#[derive(Clone, Copy)]
 pub struct Fault {
     pub refusal: Refusal,
     pub place: usize,
 }
 
 // What the tests of tables find: nothing, or the first fault.
-#[derive(Drop)]
+#[derive(Clone, Copy)]
 pub enum Acceptance {
     Accepted,
     Refused(Fault),
 }
 
 // A record of the table of terms. `number` is the atom's number, or the number of the term that a dereference names.
-#[derive(Drop)]
+#[derive(Clone, Copy)]
 pub struct TermRecord {
     pub kind: u64,
     pub number: u64,
@@ -90,7 +90,7 @@ pub struct TermRecord {
 }
 
 // A record of the table of propositions.
-#[derive(Drop)]
+#[derive(Clone, Copy)]
 pub struct PropositionRecord {
     pub kind: u64,
     pub left: u64,
@@ -99,7 +99,7 @@ pub struct PropositionRecord {
 }
 
 // A record of the table of questions.
-#[derive(Drop)]
+#[derive(Clone, Copy)]
 pub struct QuestionRecord {
     pub left: u64,
     pub offset: i64,
@@ -107,14 +107,14 @@ pub struct QuestionRecord {
 }
 
 // Whether a call of the solver asks for the blame of a contradiction.
-#[derive(Drop)]
+#[derive(Clone, Copy)]
 pub enum Blame {
     Asked,
     NotAsked,
 }
 
 // What a call of the solver returns: the verdict, or the fault of its tables or its lent memory.
-#[derive(Drop)]
+#[derive(Clone, Copy)]
 pub enum Solved {
     Satisfiable,
     Contradiction,
@@ -122,7 +122,7 @@ pub enum Solved {
 }
 
 // How many records of each table a text has.
-#[derive(Drop)]
+#[derive(Clone, Copy)]
 pub struct Counts {
     pub terms: usize,
     pub propositions: usize,
@@ -130,22 +130,22 @@ pub struct Counts {
 }
 
 // What a call of the reader returns: the counts of what was read, or the fault, whose place is the number of its frame.
-#[derive(Drop)]
+#[derive(Clone, Copy)]
 pub enum ReadResult {
     Accepted(Counts),
     Refused(Fault),
 }
 
 // A number in the table of terms.
-#[derive(Drop)]
+#[derive(Clone, Copy)]
 pub struct TermNumber(pub usize);
 
 // A number in the table of propositions.
-#[derive(Drop)]
+#[derive(Clone, Copy)]
 pub struct PropositionNumber(pub usize);
 
 // A number in the table of questions.
-#[derive(Drop)]
+#[derive(Clone, Copy)]
 pub struct QuestionNumber(pub usize);
 
 // The number that a record names, as an index. Public for the crates `lastlook`, `joins`, `congruence`,

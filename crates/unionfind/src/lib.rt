@@ -14,14 +14,14 @@ use offsets::{difference, is_same, opposite, sum};
 use types::TermNumber;
 
 // The representative of a term's class, and the term's offset from it.
-#[derive(Drop)]
+#[derive(Clone, Copy)]
 pub struct Root {
     pub term: TermNumber,
     pub offset: i64,
 }
 
 // What joining a = z + b found.
-#[derive(Drop)]
+#[derive(Clone, Copy)]
 pub enum Joining {
     Joined,
     Held,

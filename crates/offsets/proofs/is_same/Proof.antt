@@ -7,5 +7,5 @@ use Rattle.offsets.proofs.is_same.Lts as lts
 returns : tie.Need-returns
 returns c = same_bits c.args.a c.args.b c.ranges.a c.ranges.b
 
-pub is-same-spec : {M : Type 1} → statement M
-is-same-spec = tie.close (tie.spec returns)
+pub is_same_spec : {M : Type 1} → statement M
+is_same_spec = tie.close (tie.spec returns)

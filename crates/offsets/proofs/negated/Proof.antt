@@ -11,10 +11,10 @@ use Rattle.offsets.proofs.negated.Tie as tie
 fits : (c : tie.Start) → SFits w64 (neg_ℤ c.args.z)
 fits c = within_fits (lit< tt) (within_negation (fits_within c.ranges.z))
 
-cast-result : tie.Need-overflow-cast-result
+cast-result : tie.Need-overflow_cast-result
 cast-result c = rw (to_z-of_z w32 c.args.z c.ranges.z) (fits_wider c.ranges.z)
 
-sub-result : tie.Need-overflow-sub-result
+sub-result : tie.Need-overflow_sub-result
 sub-result c =
     rw (to_z-of_z w32 c.args.z c.ranges.z, to_z-of_z w64 c.args.z (fits_wider c.ranges.z), +ℤ_idl) (fits c)
 
@@ -23,5 +23,5 @@ returns c =
     rw (to_z-of_z w32 c.args.z c.ranges.z, to_z-of_z w64 c.args.z (fits_wider c.ranges.z), +ℤ_idl)
     (to_z-of_z w64 (neg_ℤ c.args.z) (fits c))
 
-pub negated-spec : {M : Type 1} → statement M
-negated-spec = tie.close (tie.spec cast-result sub-result returns)
+pub negated_spec : {M : Type 1} → statement M
+negated_spec = tie.close (tie.spec cast-result sub-result returns)

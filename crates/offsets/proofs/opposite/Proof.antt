@@ -6,11 +6,11 @@ use Rattle.offsets.proofs.opposite.Tie as tie
 use Rattle.offsets.proofs.opposite.Reads as reads
 use Rattle.offsets.proofs.opposite.Lts as lts
 
-sub-result : tie.Need-overflow-sub-result
+sub-result : tie.Need-overflow_sub-result
 sub-result c = rw (to_z-of_z w64 c.args.a c.ranges.a, +ℤ_idl) c.requires
 
 returns : tie.Need-returns
 returns c = rw (to_z-of_z w64 c.args.a c.ranges.a, +ℤ_idl) (to_z-of_z w64 (neg_ℤ c.args.a) c.requires)
 
-pub opposite-spec : {M : Type 1} → statement M
-opposite-spec = tie.close (tie.spec sub-result returns)
+pub opposite_spec : {M : Type 1} → statement M
+opposite_spec = tie.close (tie.spec sub-result returns)

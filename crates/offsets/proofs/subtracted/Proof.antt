@@ -11,13 +11,13 @@ use Rattle.offsets.proofs.subtracted.Tie as tie
 fits : (c : tie.Start) → SFits w64 (c.args.y -ℤ c.args.z)
 fits c = within_fits (lit< tt) (within_difference (fits_within c.ranges.y) (fits_within c.ranges.z))
 
-cast-result : tie.Need-overflow-cast-result
+cast-result : tie.Need-overflow_cast-result
 cast-result c = rw (to_z-of_z w32 c.args.y c.ranges.y) (fits_wider c.ranges.y)
 
-cast-result-2 : tie.Need-overflow-cast-result-2
+cast-result-2 : tie.Need-overflow_cast-result-2
 cast-result-2 c = rw (to_z-of_z w32 c.args.z c.ranges.z) (fits_wider c.ranges.z)
 
-sub-result : tie.Need-overflow-sub-result
+sub-result : tie.Need-overflow_sub-result
 sub-result c =
     rw (
       to_z-of_z w32 c.args.y c.ranges.y,
@@ -37,5 +37,5 @@ returns c =
     )
     (to_z-of_z w64 (c.args.y -ℤ c.args.z) (fits c))
 
-pub subtracted-spec : {M : Type 1} → statement M
-subtracted-spec = tie.close (tie.spec cast-result cast-result-2 sub-result returns)
+pub subtracted_spec : {M : Type 1} → statement M
+subtracted_spec = tie.close (tie.spec cast-result cast-result-2 sub-result returns)

@@ -1,0 +1,211 @@
+#!/usr/bin/env python3
+"""Renames what a function's Proof.antt names of the walk through its code: needs, places and steps, from an older kit's names to this one's.
+
+usage: python3 tools/walks.py NAMES [CRATE..]     (from the repository's root, after `rt names NAMES`)
+
+NAMES has crates/CRATE/names.json, Rattle's own table of old and new names. A path such as c.before.if1.true is followed place by place.
+"""
+import json
+import os
+import re
+import sys
+
+PATH = re.compile(r"(?<![\w.'\-₀])([^\W\d][\w'₀]*)((?:\.[\w'\-₀]+)+)")
+WORD = r"[^\s(){}.,;:=→×@\"`|«»]+"
+
+
+def plain(name):
+    """A name as port.py may have left it, in one spelling."""
+    name = name.replace("_", "-")
+    return name[len("overflow-"):] if name.startswith("overflow-") else name
+
+
+class Plain(dict):
+    """A table that is read by names in any of their spellings."""
+
+    def __init__(self, pairs=()):
+        super().__init__()
+        for name, value in pairs:
+            self[name] = value
+
+    def __setitem__(self, name, value):
+        super().__setitem__(plain(name), value)
+
+    def get(self, name, other=None):
+        return super().get(plain(name), other) if name is not None else other
+
+
+class Function:
+    def __init__(self, told):
+        self.needs = Plain(told["needs"])
+        self.order = [old for old, _ in told["needs"]]
+        self.at = Plain()
+        for (old, _), (place, _) in zip(told["needs"], told["asked_at"]):
+            self.at[old] = place
+        self.parent, self.step, self.callee = Plain(), Plain(), Plain()
+        for name, parent, step, callee, _ in told["places"]:
+            self.parent[name], self.step[name], self.callee[name] = parent, step, callee
+        self.new_place = Plain(zip([p[0] for p in told["places"]], told["places_by_name"]))
+        self.loops = Plain((pair[0][0], pair[0][1]) for pair in told["loops"])
+
+    def walk(self, place, fields):
+        """The fields of a path from a place, renamed, and the place that it ends at, or None."""
+        out = []
+        while fields:
+            f, rest = fields[0], fields[1:]
+            if f == "before" and self.parent.get(place):
+                place, fields = self.parent[place], rest
+                out.append(f)
+                continue
+            old, new = self.step.get(place, ("", ""))
+            if old and plain(f) == plain(old):
+                return out + [new] + rest, None
+            return out + fields, None
+        return out, place
+
+
+def turn(text, fn, name):
+    # types first: needs, invariants, measures, places
+    places = {}
+    lines = text.split("\n")
+    out = []
+    env = {}
+    signatures = {}
+
+    def types(line):
+        line = re.sub(r"tie\.Need-([\w'\-]+)", lambda m: "tie.Need-" + fn.needs.get(m.group(1), m.group(1)), line)
+        line = re.sub(r"tie\.(invariant|decreases)-([\w'\-]+)", lambda m: f"tie.{m.group(1)}-{fn.loops.get(m.group(2), m.group(2))}", line)
+        return re.sub(r"tie\.([A-Z][\w'\-]*)", lambda m: "tie." + fn.new_place.get(m.group(1), m.group(1)), line)
+
+    def paths(line):
+        def one(m):
+            base, fields = m.group(1), m.group(2)[1:].split(".")
+            place = env.get(base)
+            if place is None:
+                return m.group(0)
+            new, end = fn.walk(place, fields)
+            return ".".join([base, *new])
+
+        # an alias of a place: let l = c.before in
+        pos, done = 0, ""
+        for m in re.finditer(r"\blet ([\w'₀]+)(?: : [^=]*?)? = ([^\W\d][\w'₀]*)((?:\.before)*)(?= in\b|;|$)", line):
+            base, fields = m.group(2), m.group(3).split(".")[1:]
+            if base in env:
+                new, end = fn.walk(env[base], fields)
+                if end is not None:
+                    done += PATH.sub(one, line[pos:m.start()])
+                    done += m.group(0)
+                    pos = m.end()
+                    env[m.group(1)] = end
+        return done + PATH.sub(one, line[pos:])
+
+    spec = None
+    for line in lines:
+        m = re.match(r"(\s*)(" + WORD + r") : (.*)$", line)
+        if m and not line.startswith("use "):
+            here, about = m.group(2), m.group(3)
+            need = re.match(r"tie\.Need-([\w'\-]+)", about)
+            if need:
+                signatures[here] = [fn.at.get(need.group(1))]
+            else:
+                signatures[here] = []
+                for part in re.findall(r"\(([\w'₀ ]+) : tie\.([A-Z][\w'\-]*)[^()]*\)", about):
+                    for _ in part[0].split():
+                        signatures[here].append(part[1])
+                if not signatures[here]:
+                    for part in re.findall(r"tie\.([A-Z][\w'\-]*)(?= →|$)", about):
+                        signatures[here].append(part)
+            out.append(types(line))
+            continue
+        m = re.match(r"(\s*)(" + WORD + r")((?: [\w'₀{}= ]+)?) =( |$)", line)
+        if m and m.group(2) in signatures and "let" != m.group(2):
+            env = {k: v for k, v in env.items() if False} if not m.group(1) else dict(env)
+            params = re.sub(r"\{[^}]*\}", "", m.group(3)).split()
+            for p, place in zip(params, signatures[m.group(2)]):
+                if place:
+                    env[p] = place
+        if re.match(r"\s*\(tie\.spec|\s*tie\.close \(tie\.spec|.*tie\.spec", line):
+            spec = 0
+        out.append(paths(types(line)))
+    text = "\n".join(out)
+    dashed = name.replace("_", "-")
+    text = re.sub(r"(?<![\w\-'.])" + re.escape(dashed) + r"-spec(?![\w\-'])", name + "_spec", text)
+    return lambdas(text, fn)
+
+
+def split_args(text):
+    """The arguments of an application, at depth 0, as (start, end)."""
+    found, depth, start = [], 0, None
+    for i, ch in enumerate(text):
+        if ch in "({[":
+            if depth == 0 and start is None:
+                start = i
+            depth += 1
+        elif ch in ")}]":
+            depth -= 1
+            if depth < 0:
+                break
+        if depth == 0 and ch.isspace():
+            if start is not None:
+                found.append((start, i))
+                start = None
+        elif start is None:
+            start = i
+    else:
+        i = len(text)
+    if start is not None:
+        found.append((start, i))
+    return found
+
+
+def lambdas(text, fn):
+    """Renames the paths in answers that stand in the closing call, `(λ c. ..)`, by their position."""
+    at = text.find("tie.spec")
+    if at < 0:
+        return text
+    head, tail = text[: at + len("tie.spec")], text[at + len("tie.spec"):]
+    args = split_args(tail)
+    first = len(args) - len(fn.order)
+    if first < 0:
+        print("  arguments of tie.spec:", len(args), "needs:", len(fn.order))
+        return text
+    made, pos = "", 0
+    for (a, b), need in zip(args[first:], fn.order):
+        arg = tail[a:b]
+        m = re.match(r"\(λ ([\w'₀]+)\.", arg)
+        made += tail[pos:a]
+        if m and fn.at.get(need):
+            env = {m.group(1): fn.at[need]}
+            for al in re.finditer(r"\blet ([\w'₀]+) = ([^\W\d][\w'₀]*)((?:\.before)*)(?= in\b)", arg):
+                if al.group(2) in env:
+                    end = fn.walk(env[al.group(2)], al.group(3).split(".")[1:])[1]
+                    if end:
+                        env[al.group(1)] = end
+            arg = PATH.sub(lambda p: ".".join([p.group(1), *fn.walk(env[p.group(1)], p.group(2)[1:].split("."))[0]]) if p.group(1) in env else p.group(0), arg)
+        made += arg
+        pos = b
+    return head + made + tail[pos:]
+
+
+def main():
+    names, crates = sys.argv[1], sys.argv[2:]
+    for crate in crates or sorted(os.listdir("crates")):
+        table = os.path.join(names, "crates", crate, "names.json")
+        if not os.path.isfile(table):
+            continue
+        told = json.load(open(table))
+        for key, value in sorted(told.items()):
+            m = re.match(rf"Rattle-{crate}-proofs\.(.*)\.Lts$", key)
+            if not m:
+                continue
+            path = os.path.join("crates", crate, "proofs", *m.group(1).split("."), "Proof.antt")
+            if not os.path.isfile(path):
+                continue
+            text = open(path, encoding="utf-8").read()
+            new = turn(text, Function(value), m.group(1).split(".")[-1])
+            if new != text:
+                open(path, "w", encoding="utf-8").write(new)
+
+
+if __name__ == "__main__":
+    main()
