@@ -31,6 +31,9 @@ class Plain(dict):
     def __setitem__(self, name, value):
         super().__setitem__(plain(name), value)
 
+    def __getitem__(self, name):
+        return super().__getitem__(plain(name))
+
     def get(self, name, other=None):
         return super().get(plain(name), other) if name is not None else other
 

@@ -1,6 +1,5 @@
 // The blame for a contradiction. Public for the crate `solver`.
 ghost use Rattle.std.specs.Prelude.{◌≡◌, false, suc, ◌-◌, ◌<◌, ◌≤◌, length};
-ghost use Rattle.lists.specs.Lent.{before, after};
 ghost use Rattle.outcome.specs.Outcome.{marks_if};
 ghost use Rattle.tables.specs.Sets.{set_of};
 ghost use Rattle.blame.specs.Kept.{AllKept};
@@ -15,7 +14,7 @@ use types::{Blame, PropositionNumber};
 // Writes the value to the marks with the numbers from..to.
 fn write_run(marks: &mut [u8], from: usize, to: usize, value: u8)
     requires { (from ≤ to) × (to ≤ length marks.old) }
-    ensures { after marks ≡ set_run (before marks) from to value }
+    ensures { marks.new ≡ set_run marks.old from to value }
 {
     fill(&mut marks[from..to], value);
 }
@@ -33,8 +32,8 @@ fn drop_run(
 ) -> bool
     requires marked_set { MarkedSet (set_of terms.now propositions.now) marks.old representatives.old offsets.old }
     requires from_le_to { (from ≤ to) × (to ≤ length propositions.now) × AllKept marks.old to }
-    ensures { let S = set_of (before terms) (before propositions) in
-        (result ≡ is_droppable S (before marks) from to) × (after marks ≡ tried_run S (before marks) from to) }
+    ensures { let S = set_of terms.now propositions.now in
+        (result ≡ is_droppable S marks.old from to) × (marks.new ≡ tried_run S marks.old from to) }
 {
     write_run(marks, from, to, 0);
     if !is_consistent(terms, propositions, marks, representatives, offsets) {
@@ -58,7 +57,7 @@ fn find_blamed(
     requires marked_set { MarkedSet (set_of terms.now propositions.now) marks.old representatives.old offsets.old }
     requires from_lt_to { (from < to) × (to ≤ length propositions.now) × AllKept marks.old to }
     requires to_value { is_droppable (set_of terms.now propositions.now) marks.old from to ≡ false }
-    ensures { BlamedIn (set_of (before terms) (before propositions)) (before marks) to (after marks) result.0 (suc result.0) }
+    ensures { BlamedIn (set_of terms.now propositions.now) marks.old to marks.new result.0 (suc result.0) }
 {
     let mut low = from;
     let mut high = to;
@@ -99,7 +98,7 @@ fn blame_marks(
 )
     requires marked_set { MarkedSet (set_of terms.now propositions.now) marks.old representatives.old offsets.old }
     requires all_kept { AllKept marks.old (length propositions.now) }
-    ensures { after marks ≡ marks_of_blame (set_of (before terms) (before propositions)) }
+    ensures { marks.new ≡ marks_of_blame (set_of terms.now propositions.now) }
 {
     let mut k = propositions.len();
     let mut run = 1;
@@ -128,7 +127,7 @@ pub fn write_marks(
 )
     requires marked_set { MarkedSet (set_of terms.now propositions.now) marks.old representatives.old offsets.old }
     requires all_kept { AllKept marks.old (length propositions.now) }
-    ensures { after marks ≡ marks_if blame (marks_of_blame (set_of (before terms) (before propositions))) }
+    ensures { marks.new ≡ marks_if blame (marks_of_blame (set_of terms.now propositions.now)) }
 {
     match blame {
         Blame::Asked => blame_marks(terms, propositions, marks, representatives, offsets),

@@ -1,6 +1,5 @@
 // The program's argument.
 ghost use Rattle.io.specs.Counts.{IsPrefixLen};
-ghost use Rattle.lists.specs.Lent.{before, after};
 ghost use Rattle.bucketmonk.specs.Arguments.{Asks};
 
 use crate::calls::{put, write_bytes};
@@ -17,7 +16,7 @@ pub(crate) enum Request {
 }
 
 fn asked(argument: &[u8]) -> Request
-    ensures { Asks result (before argument) }
+    ensures { Asks result argument.now }
 {
     if check::same(argument, b"--help") {
         return Request::Help;
@@ -30,7 +29,7 @@ fn asked(argument: &[u8]) -> Request
 
 // Puts the argument, or as much of it as there is room for, into the buffer; tells how many bytes that are.
 fn first_argument(buffer: &mut [u8]) -> usize
-    ensures { IsPrefixLen result (after buffer) }
+    ensures { IsPrefixLen result buffer.new }
 {
     let n = os::arg(1, buffer);
     if os::errno() == libc::ENAMETOOLONG {

@@ -1,7 +1,6 @@
 // Reads and writes of the C library. A call that a signal interrupts before it moves a byte (EINTR) is made again. A proved loop has to
 // end, and nothing says that interruptions do: the calls are counted down from a number that no run uses up.
 ghost use Rattle.std.specs.Prelude.{◌≤◌, length};
-ghost use Rattle.lists.specs.Lent.{before, after};
 ghost use Rattle.bucketmonk.specs.Calls.{Within};
 
 // What came of a call, or of several for one buffer.
@@ -15,7 +14,7 @@ pub(crate) enum Moved {
 
 // One read from standard input.
 fn read_some(buffer: &mut [u8]) -> Moved
-    ensures { Within result (length (after buffer)) }
+    ensures { Within result (length buffer.new) }
 {
     let mut calls = u64::MAX;
     while calls > 0 {
@@ -33,7 +32,7 @@ fn read_some(buffer: &mut [u8]) -> Moved
 
 // Reads standard input until the buffer is full, the input ends or a read fails.
 pub(crate) fn read_input(buffer: &mut [u8]) -> Moved
-    ensures { Within result (length (after buffer)) }
+    ensures { Within result (length buffer.new) }
 {
     let mut done = 0;
     while done < buffer.len() {
@@ -52,7 +51,7 @@ pub(crate) fn read_input(buffer: &mut [u8]) -> Moved
 
 // One write.
 fn write_some(fd: i32, bytes: &[u8]) -> Moved
-    ensures { Within result (length (before bytes)) }
+    ensures { Within result (length bytes.now) }
 {
     let mut calls = u64::MAX;
     while calls > 0 {
@@ -70,7 +69,7 @@ fn write_some(fd: i32, bytes: &[u8]) -> Moved
 
 // Writes until all bytes are written or a write takes none or fails; tells how many were written.
 pub(crate) fn write_bytes(fd: i32, bytes: &[u8]) -> usize
-    ensures { result ≤ length (before bytes) }
+    ensures { result ≤ length bytes.now }
 {
     let mut done = 0;
     while done < bytes.len() {

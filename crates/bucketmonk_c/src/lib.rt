@@ -1,6 +1,5 @@
 // The solver, the reader and the program's output for programs in C. The header is include/bucketmonk.h.
 ghost use Rattle.std.specs.Prelude.{◌≡◌};
-ghost use Rattle.lists.specs.Lent.{before, after};
 ghost use Rattle.tables.specs.Memory.{memory_of};
 ghost use Rattle.tables.specs.TableFaults.{tables_of};
 ghost use Rattle.solver.specs.Call.{unasked, verdict_of};
@@ -32,9 +31,9 @@ pub extern "C" fn bucketmonk_solve(
     pairs: &mut [u8],
     answers: &mut [u8],
 ) -> usize
-    ensures { let T = tables_of n (before terms) m (before propositions) q (before questions) in
-        let M = memory_of (before representatives) (before offsets) (before marks) (before pairs) (before answers) in
-        let N = memory_of (after representatives) (after offsets) (after marks) (after pairs) (after answers) in
+    ensures { let T = tables_of n terms.now m propositions.now q questions.now in
+        let M = memory_of representatives.old offsets.old marks.old pairs.old answers.old in
+        let N = memory_of representatives.new offsets.new marks.new pairs.new answers.new in
         AnsweredNumber (blame_of_number blame) T M N result }
 {
     solved_number(solve(
@@ -61,7 +60,7 @@ pub extern "C" fn bucketmonk_verdict(
     m: usize,
     propositions: &[PropositionRow],
 ) -> usize
-    ensures { result ≡ number_of_solved (verdict_of (unasked n (before terms) m (before propositions))) }
+    ensures { result ≡ number_of_solved (verdict_of (unasked n terms.now m propositions.now)) }
 {
     let found = verdict(n, terms, m, propositions);
     solved_number(found)
@@ -75,9 +74,9 @@ pub extern "C" fn bucketmonk_read(
     propositions: &mut [PropositionRow],
     questions: &mut [QuestionRow],
 ) -> usize
-    ensures { let C = rows (before terms) (before propositions) (before questions) in
-        let D = rows (after terms) (after propositions) (after questions) in
-        ReadNumber (before text) C result D }
+    ensures { let C = rows terms.old propositions.old questions.old in
+        let D = rows terms.new propositions.new questions.new in
+        ReadNumber text.now C result D }
 {
     let found = read(text, terms, propositions, questions);
     read_number(found)
@@ -92,8 +91,8 @@ pub extern "C" fn bucketmonk_faulty_line(
     questions: usize,
     start: &mut usize,
 ) -> usize
-    ensures { let part = part_at_fault (before text) terms propositions questions in
-        (result ≡ part.size) × (after start ≡ part.start) }
+    ensures { let part = part_at_fault text.now terms propositions questions in
+        (result ≡ part.size) × (start.new ≡ part.start) }
 {
     let part = faulty_part(text, terms, propositions, questions);
     *start = part.start;
@@ -103,7 +102,7 @@ pub extern "C" fn bucketmonk_faulty_line(
 // What the program writes for a text, in a buffer.
 #[unsafe(no_mangle)]
 pub extern "C" fn bucketmonk_output(text: &[u8], out: &mut [u8]) -> usize
-    ensures { WritesOutput (before text) (before out) result (after out) }
+    ensures { WritesOutput text.now out.old result out.new }
 {
     write_output(text, out)
 }

@@ -2,7 +2,6 @@
 // `settling` and `questions`.
 ghost use Rattle.std.specs.Prelude.{◌≡◌, ◌<◌, ◌≤◌, ◌^◌, length};
 ghost use Rattle.lists.specs.Filled.{Filled};
-ghost use Rattle.lists.specs.Lent.{before, after};
 ghost use Rattle.tables.specs.Limits.{most};
 ghost use Rattle.buckets.specs.Buckets.{Chainable, Chains};
 
@@ -23,7 +22,7 @@ fn index(key: u32) -> usize
 // Every bucket empty: its chain ends at n.
 fn empty(n: usize, first: &mut [u16])
     requires { n ≤ most }
-    ensures { Filled (λ _. n) 0 (length (before first)) (length (before first)) (after first) }
+    ensures { Filled (λ _. n) 0 (length first.old) (length first.old) first.new }
 {
     for k in 0..first.len() {
         first[k] = link(n);
@@ -33,7 +32,7 @@ fn empty(n: usize, first: &mut [u16])
 // Puts the numbers below n into their chains, the highest first.
 fn fill(n: usize, keys: &[u32], first: &mut [u16], next: &mut [u16])
     requires { Chainable n (length first.old) keys.now next.old × Filled (λ _. n) 0 (length first.old) (length first.old) first.old }
-    ensures { Chains n (length (before first)) (before keys) (after first) (after next) }
+    ensures { Chains n (length first.old) keys.now first.new next.new }
 {
     let mut t = n;
     while 0 < t {
@@ -47,7 +46,7 @@ fn fill(n: usize, keys: &[u32], first: &mut [u16], next: &mut [u16])
 // The chains of the numbers below n by their keys. A chain ends at n.
 pub fn chain(n: usize, keys: &[u32], first: &mut [u16], next: &mut [u16])
     requires { Chainable n (length first.old) keys.now next.old }
-    ensures { Chains n (length (before first)) (before keys) (after first) (after next) }
+    ensures { Chains n (length first.old) keys.now first.new next.new }
 {
     empty(n, first);
     fill(n, keys, first, next);

@@ -1,6 +1,5 @@
 // The answers to the questions that rows hold, by the places of their sides.
 ghost use Rattle.std.specs.Prelude.{◌≡◌, ◌<◌, ◌≤◌, pos, ◌+ℤ◌, length, get_or};
-ghost use Rattle.lists.specs.Lent.{before, after};
 ghost use Rattle.tables.specs.Limits.{most};
 ghost use Rattle.tables.specs.QuestionTable.{AcceptedQuestions, asked};
 ghost use Rattle.tables.specs.Rows.{question_in};
@@ -29,7 +28,7 @@ fn right_height(
     heights: &[u64],
 ) -> u64
     requires { Placed n reps.now offs.now heights.now × (AcceptedQuestions n (length questions.now) (question_in questions.now) × (k.0 < length questions.now)) }
-    ensures { let c = asked (question_in (before questions) k.0) in Lifted result (c.offset +ℤ get_or (before offs) c.right (pos 0)) }
+    ensures { let c = asked (question_in questions.now k.0) in Lifted result (c.offset +ℤ get_or offs.now c.right (pos 0)) }
 {
     let r = question_at(questions, k);
     let right = index(r.right);
@@ -63,7 +62,7 @@ fn answer_one(
 ) -> Answer
     requires judging { Judging n m reads.now read_heights.now class_first.now class_next.now slot_first.now slot_next.now left_classes.now left_heights.now right_classes.now right_heights.now side_first.now side_next.now apart.now pairs.now }
     requires placed { Placed n reps.now offs.now heights.now × (AcceptedQuestions n (length questions.now) (question_in questions.now) × (k.0 < length questions.now)) }
-    ensures { RowJudged n m (before reps) (before offs) (before reads) (before read_heights) (before left_classes) (before left_heights) (before right_classes) (before right_heights) (before apart) (before pairs) (asked (question_in (before questions) k.0)) result }
+    ensures { RowJudged n m reps.now offs.now reads.now read_heights.now left_classes.now left_heights.now right_classes.now right_heights.now apart.now pairs.now (asked (question_in questions.now k.0)) result }
 {
     let r = question_at(questions, k);
     let left = index(r.left);
@@ -124,7 +123,7 @@ fn answer_each(
 )
     requires judging { Judging n m reads.now read_heights.now class_first.now class_next.now slot_first.now slot_next.now left_classes.now left_heights.now right_classes.now right_heights.now side_first.now side_next.now apart.now pairs.now }
     requires placed { Placed n reps.now offs.now heights.now × (AcceptedQuestions n (length questions.now) (question_in questions.now) × ((length questions.now ≤ most) × (length answers.old ≡ length questions.now))) }
-    ensures { RowsTold n m (before reps) (before offs) (before reads) (before read_heights) (before left_classes) (before left_heights) (before right_classes) (before right_heights) (before apart) (before pairs) (before questions) (length (before questions)) (after answers) }
+    ensures { RowsTold n m reps.now offs.now reads.now read_heights.now left_classes.now left_heights.now right_classes.now right_heights.now apart.now pairs.now questions.now (length questions.now) answers.new }
 {
     for k in 0..questions.len() {
         let a = answer_one(
@@ -176,7 +175,7 @@ pub(crate) fn answer_all(
     requires given { Given n m reps.now heights.now reads.now read_heights.now left_classes.now left_heights.now right_classes.now right_heights.now apart.now × Room n pairs.now }
     requires placed { Placed n reps.now offs.now heights.now × (AcceptedQuestions n (length questions.now) (question_in questions.now) × ((length questions.now ≤ most) × (length answers.old ≡ length questions.now))) }
     requires side_columns { SideColumns m left_classes.now left_heights.now right_heights.now }
-    ensures { RowsTold n m (before reps) (before offs) (before reads) (before read_heights) (before left_classes) (before left_heights) (before right_classes) (before right_heights) (before apart) (before pairs) (before questions) (length (before questions)) (after answers) }
+    ensures { RowsTold n m reps.now offs.now reads.now read_heights.now left_classes.now left_heights.now right_classes.now right_heights.now apart.now pairs.now questions.now (length questions.now) answers.new }
 {
     let mut class_first = [0u16; CLASSES];
     let mut class_next = [0u16; MOST];

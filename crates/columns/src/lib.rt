@@ -2,7 +2,6 @@
 mod answering;
 
 ghost use Rattle.std.specs.Prelude.{◌≡◌, length};
-ghost use Rattle.lists.specs.Lent.{before, after};
 ghost use Rattle.tables.specs.Sets.{set_of};
 ghost use Rattle.columns.specs.Telling.{Labelling, Asking, pairs_by, answers_by, questions_in};
 ghost use Rattle.columns.specs.Asked.{Filled};
@@ -37,8 +36,8 @@ fn tell_places(
     requires labelling { Labelling (set_of terms.now propositions.now) reps.now offs.now }
     requires filled { Filled (set_of terms.now propositions.now) reps.now offs.now heights.now reads.now read_heights.now left_classes.now left_heights.now right_classes.now right_heights.now apart.now }
     requires asking { Asking (length terms.now) questions.now pairs.old answers.old }
-    ensures pairs_value { after pairs ≡ pairs_by (set_of (before terms) (before propositions)) (before reps) (before offs) }
-    ensures answers_value { after answers ≡ answers_by (set_of (before terms) (before propositions)) (before reps) (before offs) (questions_in (before questions)) }
+    ensures pairs_value { pairs.new ≡ pairs_by (set_of terms.now propositions.now) reps.now offs.now }
+    ensures answers_value { answers.new ≡ answers_by (set_of terms.now propositions.now) reps.now offs.now (questions_in questions.now) }
 {
     let n = terms.len();
     let m = propositions.len();
@@ -87,8 +86,8 @@ pub fn tell_differences(
 )
     requires labelling { Labelling (set_of terms.now propositions.now) reps.now offs.now }
     requires asking { Asking (length terms.now) questions.now pairs.old answers.old }
-    ensures pairs_value { after pairs ≡ pairs_by (set_of (before terms) (before propositions)) (before reps) (before offs) }
-    ensures answers_value { after answers ≡ answers_by (set_of (before terms) (before propositions)) (before reps) (before offs) (questions_in (before questions)) }
+    ensures pairs_value { pairs.new ≡ pairs_by (set_of terms.now propositions.now) reps.now offs.now }
+    ensures answers_value { answers.new ≡ answers_by (set_of terms.now propositions.now) reps.now offs.now (questions_in questions.now) }
 {
     let n = terms.len();
     let mut heights = [0u64; MOST];

@@ -1,7 +1,6 @@
 // Congruence closure: dereferences of one address are joined until all agree. The last look shows that none is left. Where to look first
 // is noted in `uselists`.
 ghost use Rattle.std.specs.Prelude.{length};
-ghost use Rattle.lists.specs.Lent.{before, after};
 ghost use Rattle.tables.specs.Rows.{term_in};
 ghost use Rattle.tables.specs.TermTable.{AcceptedTerms};
 ghost use Rattle.joins.specs.Labels.{Labels, Unchanged};
@@ -27,7 +26,7 @@ fn chase(
     keys: &mut Keys,
 ) -> bool
     requires { AcceptedTerms (length terms.now) (term_in terms.now) × Labels (length terms.now) parents.old offsets.old }
-    ensures { Chased (length (before terms)) (term_in (before terms)) (before parents) (before offsets) (after parents) (after offsets) result }
+    ensures { Chased (length terms.now) (term_in terms.now) parents.old offsets.old parents.new offsets.new result }
 {
     for _ in 0..LOOKS {
         let x = next_term(notes);
@@ -54,7 +53,7 @@ fn any_dereference(terms: &[TermRow]) -> bool {
 // Joins dereferences of one address as the notes lead to them; tells whether no two clash.
 fn propagate(terms: &[TermRow], parents: &mut [u32], offsets: &mut [i64]) -> bool
     requires { AcceptedTerms (length terms.now) (term_in terms.now) × Labels (length terms.now) parents.old offsets.old }
-    ensures { Chased (length (before terms)) (term_in (before terms)) (before parents) (before offsets) (after parents) (after offsets) result }
+    ensures { Chased (length terms.now) (term_in terms.now) parents.old offsets.old parents.new offsets.new result }
 {
     if !any_dereference(terms) {
         return true;
@@ -67,7 +66,7 @@ fn propagate(terms: &[TermRow], parents: &mut [u32], offsets: &mut [i64]) -> boo
 // Joins what the last look finds until it finds nothing; or two of one class that differ.
 fn settle(terms: &[TermRow], parents: &mut [u32], offsets: &mut [i64]) -> bool
     requires { AcceptedTerms (length terms.now) (term_in terms.now) × Labels (length terms.now) parents.old offsets.old }
-    ensures { Closing (length (before terms)) (term_in (before terms)) (before parents) (before offsets) (after parents) (after offsets) result }
+    ensures { Closing (length terms.now) (term_in terms.now) parents.old offsets.old parents.new offsets.new result }
 {
     loop {
         flatten(parents, offsets);
@@ -86,7 +85,7 @@ fn settle(terms: &[TermRow], parents: &mut [u32], offsets: &mut [i64]) -> bool
 // Public for the crate `consistency`.
 pub fn close(terms: &[TermRow], parents: &mut [u32], offsets: &mut [i64]) -> bool
     requires { AcceptedTerms (length terms.now) (term_in terms.now) × Labels (length terms.now) parents.old offsets.old }
-    ensures { Closing (length (before terms)) (term_in (before terms)) (before parents) (before offsets) (after parents) (after offsets) result }
+    ensures { Closing (length terms.now) (term_in terms.now) parents.old offsets.old parents.new offsets.new result }
 {
     if !propagate(terms, parents, offsets) {
         return false;

@@ -1,6 +1,5 @@
 // The kept equalities, joined.
 ghost use Rattle.std.specs.Prelude.{◌≡◌, ◌≤◌, ◌<◌, length};
-ghost use Rattle.lists.specs.Lent.{before, after};
 ghost use Rattle.tables.specs.Sets.{set_of, AcceptedSet};
 ghost use Rattle.unionfind.specs.Forest.{flat};
 ghost use Rattle.consistency.specs.Live.{Live, Advanced, Equalities};
@@ -21,7 +20,7 @@ fn join_equality(
     requires fact { let S = set_of terms.now propositions.now in
         AcceptedSet S × Live S marks.now parents.old offsets.old }
     requires propositions_in_bounds { (length propositions.now ≤ length marks.now) × (p.0 < length propositions.now) }
-    ensures { Advanced (set_of (before terms) (before propositions)) (before marks) (flat (before parents) (before offsets)) (after parents) (after offsets) p.0 result }
+    ensures { Advanced (set_of terms.now propositions.now) marks.now (flat parents.old offsets.old) parents.new offsets.new p.0 result }
 {
     let k = p.0;
     if marks[k] == 0 {
@@ -51,7 +50,7 @@ pub(crate) fn join_equalities(
     requires fact { let S = set_of terms.now propositions.now in
         AcceptedSet S × Live S marks.now parents.old offsets.old }
     requires propositions_in_bounds { length propositions.now ≤ length marks.now }
-    ensures { Equalities (set_of (before terms) (before propositions)) (before marks) (after parents) (after offsets) (length (before propositions)) result }
+    ensures { Equalities (set_of terms.now propositions.now) marks.now parents.new offsets.new (length propositions.now) result }
 {
     for p in 0..propositions.len() {
         if !join_equality(

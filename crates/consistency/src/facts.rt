@@ -1,6 +1,5 @@
 // The kept facts that labels can contradict: disequalities, block disequalities, and variables in one class.
 ghost use Rattle.std.specs.Prelude.{◌≡◌, ℕ, ◌≤◌, ◌<◌, length, get_or};
-ghost use Rattle.lists.specs.Lent.{before, after};
 ghost use Rattle.integers.specs.Within.{Within};
 ghost use Rattle.labels.specs.Spread.{far};
 ghost use Rattle.labels.specs.View.{view};
@@ -20,7 +19,7 @@ use types::{BLOCK_DISEQUALITY, DISEQUALITY, MOST, PropositionNumber, TermNumber,
 // Whether the labels say a = z + b.
 fn holds(representatives: &[u32], offsets: &[i64], a: TermNumber, z: i64, b: TermNumber) -> bool
     requires { Columns representatives.now offsets.now × ((a.0 < length representatives.now) × ((b.0 < length representatives.now) × Within far z)) }
-    ensures { result ≡ labelsHold (view (before representatives) (before offsets)) (comparison a.0 z b.0) }
+    ensures { result ≡ labelsHold (view representatives.now offsets.now) (comparison a.0 z b.0) }
 {
     let i = a.0;
     let j = b.0;
@@ -40,7 +39,7 @@ fn is_refuted(
 ) -> bool
     requires accepted_propositions { AcceptedPropositions (length representatives.now) (length propositions.now) (proposition_in propositions.now) × Columns representatives.now offsets.now }
     requires propositions_in_bounds { (length propositions.now ≤ length marks.now) × (p.0 < length propositions.now) }
-    ensures { Judged (proposition_in (before propositions)) (before marks) (view (before representatives) (before offsets)) p.0 result }
+    ensures { Judged (proposition_in propositions.now) marks.now (view representatives.now offsets.now) p.0 result }
 {
     let k = p.0;
     if marks[k] == 0 {
@@ -73,7 +72,7 @@ pub(crate) fn any_refuted(
 ) -> bool
     requires accepted_propositions { AcceptedPropositions (length representatives.now) (length propositions.now) (proposition_in propositions.now) × Columns representatives.now offsets.now }
     requires propositions_in_bounds { length propositions.now ≤ length marks.now }
-    ensures { Refuted (length (before propositions)) (proposition_in (before propositions)) (before marks) (view (before representatives) (before offsets)) result }
+    ensures { Refuted (length propositions.now) (proposition_in propositions.now) marks.now (view representatives.now offsets.now) result }
 {
     for p in 0..propositions.len() {
         if is_refuted(
@@ -100,7 +99,7 @@ fn wide(x: u32) -> usize
 pub(crate) fn variables_meet(terms: &[TermRow], representatives: &[u32]) -> bool
     requires terms_len_bound { (length terms.now ≤ most) × (length representatives.now ≡ length terms.now) }
     requires by_index { (t : ℕ) → t < length representatives.now → get_or representatives.now t 0 < length representatives.now }
-    ensures { Meets (length (before terms)) (term_in (before terms)) (before representatives) result }
+    ensures { Meets (length terms.now) (term_in terms.now) representatives.now result }
 {
     let mut seen = [0u32; MOST];
     for t in 0..terms.len() {

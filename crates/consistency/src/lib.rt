@@ -4,7 +4,6 @@ mod equalities;
 mod facts;
 
 ghost use Rattle.std.specs.Prelude.{◌≡◌, ◌≤◌, length};
-ghost use Rattle.lists.specs.Lent.{before, after};
 ghost use Rattle.tables.specs.Sets.{set_of, AcceptedSet};
 ghost use Rattle.consistency.specs.Deciding.{Decided};
 
@@ -25,7 +24,7 @@ pub fn is_consistent(
 ) -> bool
     requires accepted_set { AcceptedSet (set_of terms.now propositions.now) × (length propositions.now ≤ length marks.now) }
     requires representatives_len { (length representatives.old ≡ length terms.now) × (length offsets.old ≡ length terms.now) }
-    ensures { Decided (set_of (before terms) (before propositions)) (before marks) (after representatives) (after offsets) result }
+    ensures { Decided (set_of terms.now propositions.now) marks.now representatives.new offsets.new result }
 {
     reset(representatives, offsets);
     if !join_equalities(terms, propositions, marks, representatives, offsets) {

@@ -1,6 +1,5 @@
 // The pair table of an accepted set, by the places of its terms, of what its dereferences read and of the sides of its disequalities.
 ghost use Rattle.std.specs.Prelude.{◌≡◌, ◌≤◌, length};
-ghost use Rattle.lists.specs.Lent.{before, after};
 ghost use Rattle.points.specs.Places.{Chained};
 ghost use Rattle.points.specs.Homes.{Unique};
 ghost use Rattle.marking.specs.Marks.{Room, zeros};
@@ -19,7 +18,7 @@ use types::MOST;
 
 // Clears a table.
 fn clear(table: &mut [u8])
-    ensures { after table ≡ zeros (length (before table)) }
+    ensures { table.new ≡ zeros (length table.old) }
 {
     for k in 0..table.len() {
         table[k] = 0;
@@ -46,7 +45,7 @@ fn mark_base(
 )
     requires chained { Chained n points.now heights.now class_first.now class_next.now slot_first.now slot_next.now × Unique n points.now heights.now }
     requires sides { Sides n m left_classes.now left_heights.now right_classes.now right_heights.now × (Room n apart.now × Room n pairs.old) }
-    ensures { Based n m (before points) (before heights) (before left_classes) (before left_heights) (before right_classes) (before right_heights) (before apart) (length (before pairs)) (after pairs) }
+    ensures { Based n m points.now heights.now left_classes.now left_heights.now right_classes.now right_heights.now apart.now (length pairs.old) pairs.new }
 {
     clear(pairs);
     mark_classes(n, points, heights, apart, class_first, class_next, pairs);
@@ -106,7 +105,7 @@ fn fill_table(
     requires given { Given n m classes.now heights.now reads.now read_heights.now left_classes.now left_heights.now right_classes.now right_heights.now apart.now × Room n pairs.old }
     requires placed { Placed n count classes.now heights.now homes.now points.now leads.now reads.now read_heights.now }
     requires chained { Chained n points.now heights.now class_first.now class_next.now slot_first.now slot_next.now }
-    ensures { Told n m (before classes) (before heights) (before reads) (before read_heights) (before left_classes) (before left_heights) (before right_classes) (before right_heights) (before apart) (length (before pairs)) (after pairs) }
+    ensures { Told n m classes.now heights.now reads.now read_heights.now left_classes.now left_heights.now right_classes.now right_heights.now apart.now (length pairs.old) pairs.new }
 {
     let mut notes = [0u32; NOTES];
     count_points(points, &mut notes);
@@ -164,7 +163,7 @@ pub fn pair_table(
     pairs: &mut [u8],
 )
     requires { Given n m classes.now heights.now reads.now read_heights.now left_classes.now left_heights.now right_classes.now right_heights.now apart.now × Room n pairs.old }
-    ensures { Told n m (before classes) (before heights) (before reads) (before read_heights) (before left_classes) (before left_heights) (before right_classes) (before right_heights) (before apart) (length (before pairs)) (after pairs) }
+    ensures { Told n m classes.now heights.now reads.now read_heights.now left_classes.now left_heights.now right_classes.now right_heights.now apart.now (length pairs.old) pairs.new }
 {
     let mut class_first = [0u16; CLASSES];
     let mut class_next = [0u16; MOST];

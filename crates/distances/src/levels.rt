@@ -1,7 +1,6 @@
 // Which classes get levels: large ones that are read. Where the pairs of all of them have no room, the smallest share a level, so that
 // their pairs are left out. Nothing relies on the choice.
 ghost use Rattle.std.specs.Prelude.{◌*◌, ◌≤◌, length};
-ghost use Rattle.lists.specs.Lent.{before, after};
 ghost use Rattle.lists.specs.Filled.{Filled};
 ghost use Rattle.tables.specs.Limits.{most};
 
@@ -35,7 +34,7 @@ fn class_of(key: u32) -> usize {
 
 // No class has a level.
 pub(crate) fn clear(levels: &mut [u16])
-    ensures { Filled (λ _. 0) 0 (length (before levels)) (length (before levels)) (after levels) }
+    ensures { Filled (λ _. 0) 0 (length levels.old) (length levels.old) levels.new }
 {
     for k in 0..levels.len() {
         levels[k] = 0;

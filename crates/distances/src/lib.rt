@@ -8,7 +8,6 @@ mod placing;
 mod ranks;
 
 ghost use Rattle.std.specs.Prelude.{◌≡◌, ◌+◌, ◌<◌, ◌≤◌, length, slice_index, slice_index_or};
-ghost use Rattle.lists.specs.Lent.{before};
 ghost use Rattle.tables.specs.Limits.{most};
 ghost use Rattle.points.specs.Places.{class_slots, top};
 ghost use Rattle.distances.specs.Distances.{bucket_of_distance, buckets, candidate_of, comes_before};
@@ -42,7 +41,7 @@ pub fn bucket(a: u32, p: u64, b: u32, q: u64) -> usize
 // Whether class a has a level, and one below that of class b. Public for the crate `marking`.
 pub fn is_before(a: u32, b: u32, levels: &[u16]) -> bool
     requires { (a ≤ most) × ((b ≤ most) × (length levels.now ≡ class_slots)) }
-    ensures { result ≡ comes_before (before levels) a b }
+    ensures { result ≡ comes_before levels.now a b }
 {
     let low = linked(levels, index(a));
     let high = linked(levels, index(b));
@@ -58,7 +57,7 @@ fn sum(first: u16, rank: u8) -> usize
 // The point of class a that has the rank, or MOST.
 pub(crate) fn member(a: u32, rank: u8, from: &[u16], order: &[u16]) -> usize
     requires { (a ≤ most) × (length from.now ≡ class_slots) }
-    ensures { result ≡ slice_index_or (before order) (slice_index (before from) a + rank) most }
+    ensures { result ≡ slice_index_or order.now (slice_index from.now a + rank) most }
 {
     let k = sum(from[index(a)], rank);
     if k < order.len() {
@@ -70,7 +69,7 @@ pub(crate) fn member(a: u32, rank: u8, from: &[u16], order: &[u16]) -> usize
 // The candidate that an entry stands for, in class a, or MOST. Public for the crate `marking`.
 pub fn candidate(a: u32, c: usize, from: &[u16], order: &[u16], entries: &[u8]) -> usize
     requires { (a ≤ most) × ((length from.now ≡ class_slots) × (c < length entries.now)) }
-    ensures { result ≡ candidate_of (before from) (before order) (before entries) a c }
+    ensures { result ≡ candidate_of from.now order.now entries.now a c }
 {
     member(a, entries[c], from, order)
 }

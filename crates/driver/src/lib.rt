@@ -1,7 +1,6 @@
 // What the program writes for a text: the reader, the solver and the writer one after another.
 ghost use Rattle.std.specs.Prelude.{◌≡◌, ◌≤◌, length};
 ghost use Rattle.std.proofs.Math.Option.{none};
-ghost use Rattle.lists.specs.Lent.{before, after};
 ghost use Rattle.tables.specs.Limits.{most};
 ghost use Rattle.tables.specs.TableFaults.{tables_fault};
 ghost use Rattle.text.specs.Reading.{reading};
@@ -35,8 +34,8 @@ fn answer_set(
 ) -> usize
     requires questions_value { tables_fault most (read_tables counts (rows terms.now propositions.now questions.now)) ≡ none }
     requires largest_output_in_bounds { largest_output ≤ length out.old }
-    ensures { let T = read_tables counts (rows (before terms) (before propositions) (before questions)) in
-        Appended (before out) 0 (outcome_frames (run T)) (after out) result }
+    ensures { let T = read_tables counts (rows terms.now propositions.now questions.now) in
+        Appended out.old 0 (outcome_frames (run T)) out.new result }
 {
     let n = counts.terms;
     let m = counts.propositions;
@@ -73,7 +72,7 @@ fn answer_set(
 // Writes the frames for a text, all of which is judged.
 fn answer_text(text: &[u8], out: &mut [u8]) -> usize
     requires { largest_output ≤ length out.old }
-    ensures { Appended (before out) 0 (reading_frames (reading (before text))) (after out) result }
+    ensures { Appended out.old 0 (reading_frames (reading text.now)) out.new result }
 {
     let mut terms = [[0u64; 3]; MOST];
     let mut propositions = [[0u64; 4]; MOST];
@@ -89,7 +88,7 @@ fn answer_text(text: &[u8], out: &mut [u8]) -> usize
 // Writes to `out` what the program writes for a text, and answers how many bytes that are. The text may have any length; its first
 // JUDGED bytes decide. Where `out` has less room than the largest output takes, nothing is written and the answer is 0.
 pub fn write_output(text: &[u8], out: &mut [u8]) -> usize
-    ensures { WritesOutput (before text) (before out) result (after out) }
+    ensures { WritesOutput text.now out.old result out.new }
 {
     if out.len() < LARGEST {
         return 0;

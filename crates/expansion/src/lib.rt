@@ -1,7 +1,6 @@
 // The pair table of all terms, from the bits of their homes. Public for the crate `differences`.
 ghost use Rattle.std.specs.Prelude.{◌≡◌, true, ◌≢◌, ℕ, ◌*◌, ◌<◌, ◌≤◌, length};
 ghost use Rattle.buckets.specs.Buckets.{Chains};
-ghost use Rattle.lists.specs.Lent.{before, after};
 ghost use Rattle.tables.specs.Limits.{most};
 ghost use Rattle.points.specs.Homes.{home, Homes};
 ghost use Rattle.points.specs.Places.{class, class_slots, Terms};
@@ -21,7 +20,7 @@ use words::{common, next_one, or_word, put, rest, word_at};
 // Whether each term is its own home.
 fn all_own(n: usize, homes: &[u32]) -> bool
     requires { n ≤ length homes.now }
-    ensures { result ≡ true → AllOwn n (before homes) }
+    ensures { result ≡ true → AllOwn n homes.now }
 {
     for t in 0..n {
         if index(homes[t]) != t {
@@ -34,7 +33,7 @@ fn all_own(n: usize, homes: &[u32]) -> bool
 // A mask of the homes of other terms.
 fn mark_hosts(n: usize, homes: &[u32], hosts: &mut [u64])
     requires { (n ≤ most) × (Own n homes.now × (length hosts.old ≡ 8)) }
-    ensures { Hosts n (before homes) (after hosts) }
+    ensures { Hosts n homes.now hosts.new }
 {
     for t in 0..n {
         let h = index(homes[t]);
@@ -56,7 +55,7 @@ fn set_guests(
     table: &mut [u8],
 )
     requires { Inside n i.0 v × (Chains n class_slots homes.now first.now next.now × Room n table.old) }
-    ensures { Adds n (Upto n (GuestPair (before homes) i.0 v)) (before table) (after table) }
+    ensures { Adds n (Upto n (GuestPair homes.now i.0 v)) table.old table.new }
 {
     let mut j = linked(first, v);
     while j < n {
@@ -89,7 +88,7 @@ fn expand_word(
     table: &mut [u8],
 )
     requires { Inside n i.0 (64 * w) × (Own n homes.now × (Chains n class_slots homes.now first.now next.now × Room n table.old)) }
-    ensures { Adds n (WordPair (before homes) i.0 w word) (before table) (after table) }
+    ensures { Adds n (WordPair homes.now i.0 w word) table.old table.new }
 {
     let end = width(n, w);
     let mut b = next_one(word, 0);
@@ -111,7 +110,7 @@ fn expand_others(
 )
     requires n_le_most { (n ≤ most) × (Own n homes.now × (Covered n homes.now others.now i.0 table.old × Chains n class_slots homes.now first.now next.now)) }
     requires i_lt_n { (i.0 < n) × ((home homes.now i.0 ≡ i.0) × Room n table.old) }
-    ensures { ExpandedIn n (before homes) (Row i.0) (before table) (after table) }
+    ensures { ExpandedIn n homes.now (Row i.0) table.old table.new }
 {
     let start = i.0 * n;
     let mut w = 0;
@@ -137,7 +136,7 @@ fn expand_row(
     requires n_le_most { (n ≤ most) × (Own n homes.now × (Hosts n homes.now hosts.now × Chains n class_slots homes.now first.now next.now)) }
     requires i_lt_n { (i.0 < n) × ((home homes.now i.0 ≡ i.0) × (OwnMask n classes.now (class classes.now i.0) own.now × Room n table.old)) }
     requires by_index { ((t : ℕ) → t < n → class classes.now (home homes.now t) ≡ class classes.now t) × ClassSet n classes.now homes.now table.old }
-    ensures { ExpandedIn n (before homes) (Row i.0) (before table) (after table) }
+    ensures { ExpandedIn n homes.now (Row i.0) table.old table.new }
 {
     let mut same = [0u64; 8];
     let mut reach = [0u64; 8];
@@ -166,7 +165,7 @@ fn expand_members(
     requires n_le_most { (n ≤ most) × (Own n homes.now × (Hosts n homes.now hosts.now × Chains n class_slots homes.now first.now next.now)) }
     requires a_lt_n { (a < n) × (Chains n class_slots classes.now class_first.now class_next.now × (OwnMask n classes.now a own.now × Room n table.old)) }
     requires by_index { ((t : ℕ) → t < n → class classes.now (home homes.now t) ≡ class classes.now t) × ClassSet n classes.now homes.now table.old }
-    ensures { ExpandedIn n (before homes) (ClassRows (before classes) (before homes) a n) (before table) (after table) }
+    ensures { ExpandedIn n homes.now (ClassRows classes.now homes.now a n) table.old table.new }
 {
     let mut t = linked(class_first, a);
     while t < n {
@@ -205,7 +204,7 @@ fn expand_class(
     requires n_le_most { (n ≤ most) × (Own n homes.now × (Hosts n homes.now hosts.now × Chains n class_slots homes.now first.now next.now)) }
     requires a_lt_n { (a < n) × (Chains n class_slots classes.now class_first.now class_next.now × Room n table.old) }
     requires by_index { ((t : ℕ) → t < n → class classes.now (home homes.now t) ≡ class classes.now t) × ClassSet n classes.now homes.now table.old }
-    ensures { ExpandedIn n (before homes) (ClassRows (before classes) (before homes) a n) (before table) (after table) }
+    ensures { ExpandedIn n homes.now (ClassRows classes.now homes.now a n) table.old table.new }
 {
     let mut own = [0u64; 8];
     own_homes(n, a, classes, class_first, class_next, &mut own);
@@ -239,7 +238,7 @@ fn expand_homes(
     requires n_le_most { (n ≤ most) × (Own n homes.now × (Hosts n homes.now hosts.now × Chains n class_slots homes.now first.now next.now)) }
     requires by_index { ((t : ℕ) → t < n → class classes.now t < n) × (Chains n class_slots classes.now class_first.now class_next.now × Room n table.old) }
     requires by_index_2 { ((t : ℕ) → t < n → class classes.now (home homes.now t) ≡ class classes.now t) × ClassSet n classes.now homes.now table.old }
-    ensures { ExpandedIn n (before homes) (HomeRows (before homes) n) (before table) (after table) }
+    ensures { ExpandedIn n homes.now (HomeRows homes.now n) table.old table.new }
 {
     for a in 0..n {
         expand_class(
@@ -260,7 +259,7 @@ fn expand_homes(
 // Word w of row h, without what is past the end of the row.
 fn row_word(n: usize, h: TermNumber, w: usize, table: &[u8]) -> u64
     requires { (n ≤ most) × ((h.0 < n) × (64 * w < n)) }
-    ensures { RowWord n h.0 w (before table) result }
+    ensures { RowWord n h.0 w table.now result }
 {
     let word = word_at(table, h.0 * n + 64 * w);
     let left = n - 64 * w;
@@ -273,7 +272,7 @@ fn row_word(n: usize, h: TermNumber, w: usize, table: &[u8]) -> u64
 // The bits of row h into row i.
 fn copy_row(n: usize, h: TermNumber, i: TermNumber, table: &mut [u8])
     requires { Inside n h.0 i.0 × ((i.0 ≢ h.0) × Room n table.old) }
-    ensures { Adds n (CopyPair n h.0 i.0 (before table)) (before table) (after table) }
+    ensures { Adds n (CopyPair n h.0 i.0 table.old) table.old table.new }
 {
     let mut w = 0;
     while 64 * w < n {
@@ -286,7 +285,7 @@ fn copy_row(n: usize, h: TermNumber, i: TermNumber, table: &mut [u8])
 // The rows of the terms that are not their own homes, from those of their homes.
 fn copy_rows(n: usize, homes: &[u32], table: &mut [u8])
     requires { (n ≤ most) × (Own n homes.now × (Full n homes.now table.old × Room n table.old)) }
-    ensures { ExpandedIn n (before homes) (GuestRows (before homes) n) (before table) (after table) }
+    ensures { ExpandedIn n homes.now (GuestRows homes.now n) table.old table.new }
 {
     for i in 0..n {
         let h = index(homes[i]);
@@ -301,7 +300,7 @@ fn copy_rows(n: usize, homes: &[u32], table: &mut [u8])
 pub fn expand(n: usize, classes: &[u32], heights: &[u64], homes: &[u32], table: &mut [u8])
     requires terms { Terms n classes.now heights.now × Homes n classes.now heights.now homes.now }
     requires class_set { ClassSet n classes.now homes.now table.old × (HomeColumns n homes.now table.old × Room n table.old) }
-    ensures { Expanded n (before homes) (before table) (after table) }
+    ensures { Expanded n homes.now table.old table.new }
 {
     if all_own(n, homes) {
         return;

@@ -1,6 +1,5 @@
 // The rows that were read, copied to the front of the caller's.
 ghost use Rattle.std.specs.Prelude.{◌≡◌, ◌≤◌, length, take};
-ghost use Rattle.lists.specs.Lent.{before, after};
 ghost use Rattle.lists.specs.Overwrite.{overwrite};
 ghost use Rattle.frames.specs.Rows.{rows};
 ghost use Rattle.frames.specs.Copying.{RoomFor, copied};
@@ -11,7 +10,7 @@ use types::Counts;
 // The first n rows of a table of terms or of questions.
 fn copy_triples(n: usize, from: &[[u64; 3]], to: &mut [[u64; 3]])
     requires { (n ≤ length from.now) × (n ≤ length to.old) }
-    ensures { after to ≡ overwrite (take n (before from)) (before to) }
+    ensures { to.new ≡ overwrite (take n from.now) to.old }
 {
     for k in 0..n {
         to[k] = from[k];
@@ -21,7 +20,7 @@ fn copy_triples(n: usize, from: &[[u64; 3]], to: &mut [[u64; 3]])
 // The first n rows of a table of propositions.
 fn copy_quadruples(n: usize, from: &[[u64; 4]], to: &mut [[u64; 4]])
     requires { (n ≤ length from.now) × (n ≤ length to.old) }
-    ensures { after to ≡ overwrite (take n (before from)) (before to) }
+    ensures { to.new ≡ overwrite (take n from.now) to.old }
 {
     for k in 0..n {
         to[k] = from[k];
@@ -40,9 +39,9 @@ pub fn copy_rows(
 )
     requires room_for { RoomFor counts (rows own_terms.now own_propositions.now own_questions.now) }
     requires room_for_2 { RoomFor counts (rows terms.old propositions.old questions.old) }
-    ensures { let own = rows (before own_terms) (before own_propositions) (before own_questions) in
-        let C = rows (before terms) (before propositions) (before questions) in
-        rows (after terms) (after propositions) (after questions) ≡ copied counts own C }
+    ensures { let own = rows own_terms.now own_propositions.now own_questions.now in
+        let C = rows terms.old propositions.old questions.old in
+        rows terms.new propositions.new questions.new ≡ copied counts own C }
 {
     copy_triples(counts.terms, own_terms, terms);
     copy_quadruples(counts.propositions, own_propositions, propositions);

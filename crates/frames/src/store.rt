@@ -1,7 +1,6 @@
 // The record of an accepted frame, stored after those read so far.
 ghost use Rattle.std.specs.Prelude.{◌<◌};
 ghost use Rattle.tables.specs.Limits.{most};
-ghost use Rattle.lists.specs.Lent.{before, after};
 ghost use Rattle.frames.specs.Taking.{group_count};
 ghost use Rattle.frames.specs.Rows.{rows, RoomForMost, Stored};
 
@@ -18,8 +17,8 @@ pub fn store(
 ) -> Counts
     requires frame_bound { group_count counts frame < most }
     requires room_for_most { RoomForMost (rows terms.old propositions.old questions.old) }
-    ensures { Stored counts frame (rows (before terms) (before propositions) (before questions)) result
-        (rows (after terms) (after propositions) (after questions)) }
+    ensures { Stored counts frame (rows terms.old propositions.old questions.old) result
+        (rows terms.new propositions.new questions.new) }
 {
     let mut next = counts;
     match frame {

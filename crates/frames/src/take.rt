@@ -2,7 +2,6 @@
 ghost use Rattle.std.specs.Prelude.{◌≡◌, List, ◌≤◌, leb, length};
 ghost use Rattle.tables.specs.Limits.{most};
 ghost use Rattle.tables.specs.Records.{is_same_atom};
-ghost use Rattle.lists.specs.Lent.{before};
 ghost use Rattle.lists.specs.Search.{any};
 ghost use Rattle.tables.specs.QuestionTable.{asked};
 ghost use Rattle.text.specs.Reading.{Records, frame_fault};
@@ -21,7 +20,7 @@ use types::{
 // One of the first `count` records is of the same atom.
 fn listed(t: TermRecord, count: usize, terms: &[TermRow]) -> bool
     requires { count ≤ length terms.now }
-    ensures { (rs : List TermRecord) → count ≡ length rs → Listing (before terms) rs → result ≡ any (is_same_atom t) rs }
+    ensures { (rs : List TermRecord) → count ≡ length rs → Listing terms.now rs → result ≡ any (is_same_atom t) rs }
 {
     for k in 0..count {
         if same_atom(t, term_at(terms, TermNumber(k))) {
@@ -41,7 +40,7 @@ fn is_unlisted(number: u64, terms: usize) -> bool
 fn take_term(t: TermRecord, counts: Counts, terms: &[TermRow]) -> Taken
     requires { most ≤ length terms.now }
     ensures { Took counts.terms result
-        ((R : Records) → Counted counts R → Listing (before terms) R.terms → result ≡ taken (frame_fault R (term t))) }
+        ((R : Records) → Counted counts R → Listing terms.now R.terms → result ≡ taken (frame_fault R (term t))) }
 {
     if 0 < counts.propositions {
         return Taken::Refused(Refusal::GroupOrder);
@@ -97,7 +96,7 @@ fn take_question(q: QuestionRecord, counts: Counts) -> Taken
 pub fn take_frame(frame: Frame, counts: Counts, terms: &[TermRow]) -> Taken
     requires { most ≤ length terms.now }
     ensures { Took (group_count counts frame) result
-        ((R : Records) → Counted counts R → Listing (before terms) R.terms → result ≡ taken (frame_refusal R (meaning frame))) }
+        ((R : Records) → Counted counts R → Listing terms.now R.terms → result ≡ taken (frame_refusal R (meaning frame))) }
 {
     match frame {
         Frame::Term(t) => take_term(t, counts, terms),

@@ -1,7 +1,6 @@
 // Digits of hexadecimal, and the bytes and numbers that they spell. Public for the crates `lines` and `writer`.
 ghost use Rattle.std.specs.Prelude.{◌≡◌, ◌/◌, ◌≤◌, ◌<◌, length, take};
 ghost use Rattle.std.proofs.Math.Option.{some, none};
-ghost use Rattle.lists.specs.Lent.{before, after};
 ghost use Rattle.lists.specs.Search.{choose};
 ghost use Rattle.text.specs.Lines.{digit, digit_of_value, bytes_of, big, signed};
 ghost use Rattle.hexadecimal.specs.Spelling.{spelled, pair_byte};
@@ -48,7 +47,7 @@ fn byte(high: u8, low: u8) -> Spelled
 // The bytes that a line spells, written from the front of `bytes`; false where it spells none.
 pub fn decode(line: &[u8], bytes: &mut [u8]) -> bool
     requires { length line.now / 2 ≤ length bytes.old }
-    ensures { bytes_of (before line) ≡ choose result (some (take (length (before line) / 2) (after bytes))) none }
+    ensures { bytes_of line.now ≡ choose result (some (take (length line.now / 2) bytes.new)) none }
 {
     let size = line.len() / 2;
     if size * 2 < line.len() {
@@ -66,7 +65,7 @@ pub fn decode(line: &[u8], bytes: &mut [u8]) -> bool
 // The number that at most four bytes spell, high byte first.
 pub fn number(bytes: &[u8]) -> u32
     requires { length bytes.now ≤ 4 }
-    ensures { result ≡ big (before bytes) }
+    ensures { result ≡ big bytes.now }
 {
     let mut n: u32 = 0;
     for k in 0..bytes.len() {

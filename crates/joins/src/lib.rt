@@ -1,7 +1,6 @@
 // Joins of dereferences: one is looked up by the address that it reads, and joined with what is found there. Each join is tested where
 // it is made; where to look is noted in `uselists`. Public for the crate `congruence`.
 ghost use Rattle.std.specs.Prelude.{◌<◌, pos, length};
-ghost use Rattle.lists.specs.Lent.{before, after};
 ghost use Rattle.integers.specs.Within.{Within};
 ghost use Rattle.tables.specs.Limits.{offset_limit};
 ghost use Rattle.tables.specs.Rows.{term_in};
@@ -19,7 +18,7 @@ use uselists::{Keys, Notes, join_uses, look_up};
 // The class and the address that a dereference reads.
 fn address(parents: &mut [u32], offsets: &mut [i64], r: TermRecord) -> Root
     requires { Labels (length parents.old) parents.old offsets.old × ((r.number < length parents.old) × Within offset_limit r.offset) }
-    ensures { Addressed (before parents) (before offsets) (after parents) (after offsets) r result }
+    ensures { Addressed parents.old offsets.old parents.new offsets.new r result }
 {
     let inner = find(parents, offsets, TermNumber(index(r.number)));
     let class = inner.term;
@@ -39,7 +38,7 @@ fn reads(
     at: Root,
 ) -> bool
     requires { AcceptedTerms (length terms.now) (term_in terms.now) × (Labels (length terms.now) parents.old offsets.old × (y.0 < length terms.now)) }
-    ensures { Reads (term_in (before terms)) (before parents) (before offsets) (after parents) (after offsets) y.0 at result }
+    ensures { Reads (term_in terms.now) parents.old offsets.old parents.new offsets.new y.0 at result }
 {
     let r = term_at(terms, y);
     if r.kind != DEREF {
@@ -62,7 +61,7 @@ fn merge(
     y: TermNumber,
 ) -> Joining
     requires { Labels (length parents.old) parents.old offsets.old × ((x.0 < length parents.old) × (y.0 < length parents.old)) }
-    ensures { Equated (before parents) (before offsets) (after parents) (after offsets) x.0 (pos 0) y.0 result }
+    ensures { Equated parents.old offsets.old parents.new offsets.new x.0 (pos 0) y.0 result }
 {
     let a = find(parents, offsets, x);
     let b = find(parents, offsets, y);
@@ -80,7 +79,7 @@ pub fn step(
     x: TermNumber,
 ) -> bool
     requires { AcceptedTerms (length terms.now) (term_in terms.now) × (Labels (length terms.now) parents.old offsets.old × (x.0 < length terms.now)) }
-    ensures { Chased (length (before terms)) (term_in (before terms)) (before parents) (before offsets) (after parents) (after offsets) result }
+    ensures { Chased (length terms.now) (term_in terms.now) parents.old offsets.old parents.new offsets.new result }
 {
     let r = term_at(terms, x);
     if r.kind != DEREF {

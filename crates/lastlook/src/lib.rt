@@ -3,7 +3,6 @@
 // if it should fail, all pairs are looked at.
 
 ghost use Rattle.std.specs.Prelude.{◌≡◌, ◌*◌, ◌^◌, ◌≤◌, ◌<◌, eqb, pos, length, get_or};
-ghost use Rattle.lists.specs.Lent.{before};
 ghost use Rattle.labels.specs.View.{view};
 ghost use Rattle.closure.specs.Facts.{comparison};
 ghost use Rattle.closure.specs.Verdict.{holds};
@@ -41,7 +40,7 @@ const WORD: u64 = 0x1_0000_0000;
 
 fn is_deref(terms: &[TermRow], x: TermNumber) -> bool
     requires { x.0 < length terms.now }
-    ensures { result ≡ eqb (term_in (before terms) x.0).kind deref_kind }
+    ensures { result ≡ eqb (term_in terms.now x.0).kind deref_kind }
 {
     term_at(terms, x).kind == DEREF
 }
@@ -49,7 +48,7 @@ fn is_deref(terms: &[TermRow], x: TermNumber) -> bool
 // The class of the term inside the dereference x.
 fn class_of(terms: &[TermRow], representatives: &[u32], x: TermNumber) -> u32
     requires { (x.0 < length terms.now) × ((term_in terms.now x.0).number < length representatives.now) }
-    ensures { result ≡ get_or (before representatives) (term_in (before terms) x.0).number 0 }
+    ensures { result ≡ get_or representatives.now (term_in terms.now x.0).number 0 }
 {
     let inner = index(term_at(terms, x).number);
     representatives[inner]
@@ -59,7 +58,7 @@ fn class_of(terms: &[TermRow], representatives: &[u32], x: TermNumber) -> u32
 fn address_of(terms: &[TermRow], representatives: &[u32], offsets: &[i64], x: TermNumber) -> i64
     requires labelled { Labelled terms.now representatives.now offsets.now }
     requires x_in_bounds { (x.0 < length terms.now) × ((term_in terms.now x.0).kind ≡ deref_kind) }
-    ensures { result ≡ address_of (term_in (before terms)) (view (before representatives) (before offsets)) x.0 }
+    ensures { result ≡ address_of (term_in terms.now) (view representatives.now offsets.now) x.0 }
 {
     let r = term_at(terms, x);
     let inner = index(r.number);
@@ -70,7 +69,7 @@ fn address_of(terms: &[TermRow], representatives: &[u32], offsets: &[i64], x: Te
 fn same_label(representatives: &[u32], offsets: &[i64], x: TermNumber, y: TermNumber) -> bool
     requires offsets_len { length offsets.now ≡ length representatives.now }
     requires x_in_bounds { (x.0 < length representatives.now) × (y.0 < length representatives.now) }
-    ensures { result ≡ holds (view (before representatives) (before offsets)) (comparison x.0 (pos 0) y.0) }
+    ensures { result ≡ holds (view representatives.now offsets.now) (comparison x.0 (pos 0) y.0) }
 {
     let i = x.0;
     let j = y.0;
@@ -89,7 +88,7 @@ fn same_address(
     y: TermNumber,
 ) -> bool
     requires { Labelled terms.now representatives.now offsets.now × ((x.0 < length terms.now) × (y.0 < length terms.now)) }
-    ensures { Meeting (term_in (before terms)) (view (before representatives) (before offsets)) x.0 y.0 result }
+    ensures { Meeting (term_in terms.now) (view representatives.now offsets.now) x.0 y.0 result }
 {
     if !is_deref(terms, x) {
         return false;
@@ -115,7 +114,7 @@ fn is_unequal(
     y: TermNumber,
 ) -> bool
     requires { Labelled terms.now representatives.now offsets.now × ((x.0 < length terms.now) × (y.0 < length terms.now)) }
-    ensures { Unequal (term_in (before terms)) (view (before representatives) (before offsets)) x.0 y.0 result }
+    ensures { Unequal (term_in terms.now) (view representatives.now offsets.now) x.0 y.0 result }
 {
     if !same_address(terms, representatives, offsets, x, y) {
         return false;
@@ -139,7 +138,7 @@ fn key(class: u32, address: i64) -> u64
 fn word(terms: &[TermRow], representatives: &[u32], offsets: &[i64], x: TermNumber) -> u64
     requires labelled { Labelled terms.now representatives.now offsets.now }
     requires x_in_bounds { (x.0 < length terms.now) × ((term_in terms.now x.0).kind ≡ deref_kind) }
-    ensures { result ≡ word_of (term_in (before terms)) (view (before representatives) (before offsets)) x.0 }
+    ensures { result ≡ word_of (term_in terms.now) (view representatives.now offsets.now) x.0 }
 {
     let k = key(
         class_of(terms, representatives, x),
@@ -157,7 +156,7 @@ const MANY: usize = MOST + 1;
 fn reader_of(terms: &[TermRow], representatives: &[u32], readers: &Readers, x: TermNumber) -> usize
     requires x_in_bounds { (x.0 < length terms.now) × ((term_in terms.now x.0).number < length representatives.now) }
     requires x_bound { get_or representatives.now (term_in terms.now x.0).number 0 < most }
-    ensures { result ≡ get_or (before readers) (get_or (before representatives) (term_in (before terms) x.0).number 0) 0 }
+    ensures { result ≡ get_or readers.now (get_or representatives.now (term_in terms.now x.0).number 0) 0 }
 {
     let class = class_of(terms, representatives, x) as usize;
     readers[class]
@@ -166,7 +165,7 @@ fn reader_of(terms: &[TermRow], representatives: &[u32], readers: &Readers, x: T
 // Whether a note names a term with the label of x.
 fn is_alike(representatives: &[u32], offsets: &[i64], reader: usize, x: TermNumber) -> bool
     requires { (length offsets.now ≡ length representatives.now) × (x.0 < length representatives.now) }
-    ensures { Alike (length (before representatives)) (view (before representatives) (before offsets)) reader x.0 result }
+    ensures { Alike (length representatives.now) (view representatives.now offsets.now) reader x.0 result }
 {
     if (reader == 0) | (representatives.len() < reader) {
         return false;
@@ -247,7 +246,7 @@ fn all_stand(
     places: &[usize; MOST],
 ) -> bool
     requires { Labelled terms.now representatives.now offsets.now × (count ≤ most) }
-    ensures { Standing (length (before terms)) (term_in (before terms)) (view (before representatives) (before offsets)) (before readers) (before words) count result }
+    ensures { Standing (length terms.now) (term_in terms.now) (view representatives.now offsets.now) readers.now words.now count result }
 {
     for x in 0..terms.len() {
         if !is_deref(terms, TermNumber(x)) {
@@ -280,7 +279,7 @@ fn compare(
     b: u64,
 ) -> Neighbours
     requires { Labelled terms.now representatives.now offsets.now }
-    ensures { let P = view (before representatives) (before offsets) in Tested (length (before terms)) (term_in (before terms)) P (Follows P a b) result }
+    ensures { let P = view representatives.now offsets.now in Tested (length terms.now) (term_in terms.now) P (Follows P a b) result }
 {
     if a / NUMBERS < b / NUMBERS {
         return Neighbours::Agree;
@@ -320,7 +319,7 @@ fn compare_all(
     count: usize,
 ) -> Neighbours
     requires { Labelled terms.now representatives.now offsets.now × (count ≤ most) }
-    ensures { let P = view (before representatives) (before offsets) in Tested (length (before terms)) (term_in (before terms)) P (Ordered P (before words) count) result }
+    ensures { let P = view representatives.now offsets.now in Tested (length terms.now) (term_in terms.now) P (Ordered P words.now count) result }
 {
     for i in 1..count {
         match compare(terms, representatives, offsets, words[i - 1], words[i]) {
@@ -335,7 +334,7 @@ fn compare_all(
 // Looks at all pairs.
 fn look_at_all(terms: &[TermRow], representatives: &[u32], offsets: &[i64]) -> Look
     requires { Labelled terms.now representatives.now offsets.now }
-    ensures { Looked (length (before terms)) (term_in (before terms)) (view (before representatives) (before offsets)) result }
+    ensures { Looked (length terms.now) (term_in terms.now) (view representatives.now offsets.now) result }
 {
     let n = terms.len();
     for k in 0..n * n {
@@ -365,7 +364,7 @@ fn look_by_order(
     places: &[usize; MOST],
 ) -> Look
     requires { Labelled terms.now representatives.now offsets.now × (count ≤ most) }
-    ensures { Looked (length (before terms)) (term_in (before terms)) (view (before representatives) (before offsets)) result }
+    ensures { Looked (length terms.now) (term_in terms.now) (view representatives.now offsets.now) result }
 {
     match compare_all(terms, representatives, offsets, words, count) {
         Neighbours::Pair(x, y) => return Look::Pair(x, y),
@@ -391,7 +390,7 @@ fn look_by_order(
 // address. Public for the crate `congruence`.
 pub fn unequal_pair(terms: &[TermRow], representatives: &[u32], offsets: &[i64]) -> Look
     requires { Labelled terms.now representatives.now offsets.now }
-    ensures { Looked (length (before terms)) (term_in (before terms)) (view (before representatives) (before offsets)) result }
+    ensures { Looked (length terms.now) (term_in terms.now) (view representatives.now offsets.now) result }
 {
     let mut words = [0u64; MOST];
     let mut spare = [0u64; MOST];

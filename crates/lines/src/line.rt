@@ -1,7 +1,6 @@
 // The frame that a line holds, and where a line ends.
 ghost use Rattle.std.specs.Prelude.{◌≡◌, ◌+◌, ◌≤◌, length};
 ghost use Rattle.std.proofs.Math.Option.{some};
-ghost use Rattle.lists.specs.Lent.{before};
 ghost use Rattle.text.specs.Lines.{bytes_of};
 ghost use Rattle.text.specs.Frames.{field, field_of_offset, atom, dereference, relation, blocks, asked, frame_of_bytes};
 ghost use Rattle.lines.specs.Meaning.{meaning};
@@ -18,7 +17,7 @@ use types::{
 // The number in two bytes from `at` on.
 fn word(fields: &[u8], at: usize) -> u64
     requires { at + 2 ≤ length fields.now }
-    ensures { result ≡ field at 2 (before fields) }
+    ensures { result ≡ field at 2 fields.now }
 {
     number(&fields[at..at + 2]) as u64
 }
@@ -26,13 +25,13 @@ fn word(fields: &[u8], at: usize) -> u64
 // The offset in bytes 2 to 5.
 fn offset_field(fields: &[u8]) -> i64
     requires { 6 ≤ length fields.now }
-    ensures { result ≡ field_of_offset 2 (before fields) }
+    ensures { result ≡ field_of_offset 2 fields.now }
 {
     offset(number(&fields[2..6]))
 }
 
 fn atom_frame(kind: u64, fields: &[u8]) -> Frame
-    ensures { meaning result ≡ framed (atom kind) (before fields) }
+    ensures { meaning result ≡ framed (atom kind) fields.now }
 {
     if fields.len() != 2 {
         return Frame::Malformed;
@@ -45,7 +44,7 @@ fn atom_frame(kind: u64, fields: &[u8]) -> Frame
 }
 
 fn dereference_frame(fields: &[u8]) -> Frame
-    ensures { meaning result ≡ framed dereference (before fields) }
+    ensures { meaning result ≡ framed dereference fields.now }
 {
     if fields.len() != 6 {
         return Frame::Malformed;
@@ -58,7 +57,7 @@ fn dereference_frame(fields: &[u8]) -> Frame
 }
 
 fn relation_frame(kind: u64, fields: &[u8]) -> Frame
-    ensures { meaning result ≡ framed (relation kind) (before fields) }
+    ensures { meaning result ≡ framed (relation kind) fields.now }
 {
     if fields.len() != 8 {
         return Frame::Malformed;
@@ -72,7 +71,7 @@ fn relation_frame(kind: u64, fields: &[u8]) -> Frame
 }
 
 fn blocks_frame(fields: &[u8]) -> Frame
-    ensures { meaning result ≡ framed blocks (before fields) }
+    ensures { meaning result ≡ framed blocks fields.now }
 {
     if fields.len() != 4 {
         return Frame::Malformed;
@@ -86,7 +85,7 @@ fn blocks_frame(fields: &[u8]) -> Frame
 }
 
 fn question_frame(fields: &[u8]) -> Frame
-    ensures { meaning result ≡ framed asked (before fields) }
+    ensures { meaning result ≡ framed asked fields.now }
 {
     if fields.len() != 8 {
         return Frame::Malformed;
@@ -106,7 +105,7 @@ fn wide(b: u8) -> u64
 
 // The frame that bytes spell: a kind, and its fields.
 fn frame_of(bytes: &[u8]) -> Frame
-    ensures { meaning result ≡ frame_of_bytes (some (before bytes)) }
+    ensures { meaning result ≡ frame_of_bytes (some bytes.now) }
 {
     if bytes.len() == 0 {
         return Frame::Malformed;
@@ -130,7 +129,7 @@ const LONGEST: usize = 18;
 
 // The frame of a line's characters, without the LF.
 pub fn judge_line(line: &[u8]) -> Frame
-    ensures { meaning result ≡ frame_of_bytes (bytes_of (before line)) }
+    ensures { meaning result ≡ frame_of_bytes (bytes_of line.now) }
 {
     if line.len() > LONGEST {
         return Frame::Malformed;
@@ -148,7 +147,7 @@ const LF: u8 = 10;
 // Where the line that starts at `at` ends: at its LF, or at the text's end.
 pub fn line_end(text: &[u8], at: usize) -> usize
     requires { at ≤ length text.now }
-    ensures { result ≡ end_of_line (before text) at }
+    ensures { result ≡ end_of_line text.now at }
 {
     let mut end = at;
     while end < text.len() {

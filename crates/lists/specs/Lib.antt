@@ -5,6 +5,5 @@ pub mod Search
 pub mod Counting
 pub mod Collect
 pub mod Tabulate
-pub mod Lent
 pub mod Overwrite
 pub mod Filled

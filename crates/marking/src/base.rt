@@ -1,7 +1,6 @@
 // The pairs that differ by the classes of their terms, or by a listed disequality.
 ghost use Rattle.std.specs.Prelude.{◌≡◌, ◌<◌, ◌≤◌, true};
 ghost use Rattle.buckets.specs.Buckets.{Chains};
-ghost use Rattle.lists.specs.Lent.{before, after};
 ghost use Rattle.tables.specs.Limits.{most};
 ghost use Rattle.marking.specs.Marks.{Adds, Inside, Room, Upto, zeros};
 ghost use Rattle.points.specs.Places.{Chained, class_slots, Column};
@@ -29,7 +28,7 @@ pub(crate) fn other_height(a: u32, p: u64, b: u32, q: u64) -> bool
 // Whether two places differ by their classes. Public for the crate `questions`.
 pub fn classes_differ(n: usize, a: u32, p: u64, b: u32, q: u64, apart: &[u8]) -> bool
     requires { (n ≤ most) × ((a < n) × ((b < n) × Room n apart.now)) }
-    ensures { result ≡ differ_by_classes n (before apart) a p b q }
+    ensures { result ≡ differ_by_classes n apart.now a p b q }
 {
     let apart_classes = test_pair(n, TermNumber(index(a)), TermNumber(index(b)), apart);
     apart_classes | other_height(a, p, b, q)
@@ -38,7 +37,7 @@ pub fn classes_differ(n: usize, a: u32, p: u64, b: u32, q: u64, apart: &[u8]) ->
 // Whether no class is apart from class a: all words that hold its bits are 0.
 fn none_apart(n: usize, a: usize, apart: &[u8]) -> bool
     requires { (n ≤ most) × (a < n) }
-    ensures { result ≡ true → NoneApart n (before apart) a }
+    ensures { result ≡ true → NoneApart n apart.now a }
 {
     let start = pair_number(n, TermNumber(a), TermNumber(0));
     for w in 0..(n + 63) / 64 {
@@ -59,7 +58,7 @@ pub fn own_homes(
     own: &mut [u64],
 )
     requires { Chains n class_slots points.now class_first.now class_next.now × ((n ≤ most) × ((a < n) × (own.old ≡ zeros 8))) }
-    ensures { OwnMask n (before points) a (after own) }
+    ensures { OwnMask n points.now a own.new }
 {
     let mut t = linked(class_first, a);
     while t < n {
@@ -71,7 +70,7 @@ pub fn own_homes(
 // The pairs of i with the terms of a mask but j, by words. Public for the crates `expansion` and `placing`.
 pub fn mark_masked(n: usize, i: TermNumber, j: usize, mask: &[u64], pairs: &mut [u8])
     requires { Below n mask.now × (Inside n i.0 i.0 × Room n pairs.old) }
-    ensures { Adds n (MaskPair (before mask) i.0 j) (before pairs) (after pairs) }
+    ensures { Adds n (MaskPair mask.now i.0 j) pairs.old pairs.new }
 {
     for w in 0..(n + 63) / 64 {
         let at = pair_number(n, i, TermNumber(64 * w));
@@ -90,7 +89,7 @@ fn mark_own(
     pairs: &mut [u8],
 )
     requires { Chains n class_slots points.now class_first.now class_next.now × ((n ≤ most) × ((a < n) × (Below n own.now × Room n pairs.old))) }
-    ensures { Adds n (Upto n (OwnRow (before points) (before own) a)) (before pairs) (after pairs) }
+    ensures { Adds n (Upto n (OwnRow points.now own.now a)) pairs.old pairs.new }
 {
     let mut i = linked(class_first, a);
     while i < n {
@@ -110,7 +109,7 @@ fn mark_far(
     pairs: &mut [u8],
 )
     requires { Chains n class_slots points.now class_first.now class_next.now × ((n ≤ most) × ((a < n) × (Below n far.now × Room n pairs.old))) }
-    ensures { Adds n (Upto n (FarRow n (before points) (before far) a)) (before pairs) (after pairs) }
+    ensures { Adds n (Upto n (FarRow n points.now far.now a)) pairs.old pairs.new }
 {
     let mut i = linked(class_first, a);
     while i < n {
@@ -137,7 +136,7 @@ fn mark_class(
 )
     requires column { Column n points.now heights.now × (Unique n points.now heights.now × (Chains n class_slots points.now class_first.now class_next.now × ((a < n) × (Room n apart.now × Room n pairs.old)))) }
     requires split { Split n points.now selves.now others.now other_first.now other_next.now }
-    ensures { Adds n (ClassRows n (before apart) (before points) (before heights) a) (before pairs) (after pairs) }
+    ensures { Adds n (ClassRows n apart.now points.now heights.now a) pairs.old pairs.new }
 {
     if n <= linked(class_first, a) {
         return;
@@ -179,7 +178,7 @@ fn mark_each(
 )
     requires column { Column n points.now heights.now × (Unique n points.now heights.now × (Chains n class_slots points.now class_first.now class_next.now × (Room n apart.now × Room n pairs.old))) }
     requires split { Split n points.now selves.now others.now other_first.now other_next.now }
-    ensures { Adds n (PointsDiffer n (before apart) (before points) (before heights)) (before pairs) (after pairs) }
+    ensures { Adds n (PointsDiffer n apart.now points.now heights.now) pairs.old pairs.new }
 {
     for a in 0..n {
         mark_class(
@@ -210,7 +209,7 @@ pub fn mark_classes(
     pairs: &mut [u8],
 )
     requires { Column n points.now heights.now × (Unique n points.now heights.now × (Chains n class_slots points.now class_first.now class_next.now × (Room n apart.now × Room n pairs.old))) }
-    ensures { Adds n (PointsDiffer n (before apart) (before points) (before heights)) (before pairs) (after pairs) }
+    ensures { Adds n (PointsDiffer n apart.now points.now heights.now) pairs.old pairs.new }
 {
     let mut selves = [0u64; 8];
     let mut others = [0u32; MOST];
@@ -252,7 +251,7 @@ fn mark_listed_pair(
     notes: &mut Notes,
 )
     requires { Chained n points.now heights.now class_first.now class_next.now slot_first.now slot_next.now × (Side n left_classes.now left_heights.now right_classes.now right_heights.now k.0 × Room n pairs.old) }
-    ensures { Adds n (ListedPair n (before points) (before heights) (before left_classes) (before left_heights) (before right_classes) (before right_heights) k.0) (before pairs) (after pairs) }
+    ensures { Adds n (ListedPair n points.now heights.now left_classes.now left_heights.now right_classes.now right_heights.now k.0) pairs.old pairs.new }
 {
     let at = k.0;
     let a = left_classes[at];
@@ -300,7 +299,7 @@ pub fn mark_listed(
     notes: &mut Notes,
 )
     requires { Chained n points.now heights.now class_first.now class_next.now slot_first.now slot_next.now × (Sides n m left_classes.now left_heights.now right_classes.now right_heights.now × Room n pairs.old) }
-    ensures { Adds n (Upto m (ListedPair n (before points) (before heights) (before left_classes) (before left_heights) (before right_classes) (before right_heights))) (before pairs) (after pairs) }
+    ensures { Adds n (Upto m (ListedPair n points.now heights.now left_classes.now left_heights.now right_classes.now right_heights.now)) pairs.old pairs.new }
 {
     for k in 0..m {
         mark_listed_pair(

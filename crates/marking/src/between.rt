@@ -1,6 +1,5 @@
 // The pairs of terms that stand as far apart as two places.
 ghost use Rattle.std.specs.Prelude.{◌<◌, ◌≤◌};
-ghost use Rattle.lists.specs.Lent.{before, after};
 ghost use Rattle.points.specs.Places.{AtEither, Chained, Column, SlotChains, top};
 ghost use Rattle.marking.specs.Marks.{Adds, Inside, Room, Upto};
 ghost use Rattle.marking.specs.Pairs.{PairHere, PairsFrom, PairsWith};
@@ -23,7 +22,7 @@ fn mark_if(
     notes: &mut Notes,
 )
     requires { Column n classes.now heights.now × (Inside n i.0 j.0 × Room n pairs.old) }
-    ensures { Adds n (PairHere (before classes) (before heights) class height i.0 j.0) (before pairs) (after pairs) }
+    ensures { Adds n (PairHere classes.now heights.now class height i.0 j.0) pairs.old pairs.new }
 {
     if !is_at(j, class, height, classes, heights) {
         return;
@@ -46,7 +45,7 @@ fn mark_place(
     notes: &mut Notes,
 )
     requires { Column n classes.now heights.now × (SlotChains n classes.now heights.now slot_first.now slot_next.now × ((class ≤ n) × ((height < top) × ((i.0 < n) × Room n pairs.old)))) }
-    ensures { Adds n (Upto n (PairHere (before classes) (before heights) class height i.0)) (before pairs) (after pairs) }
+    ensures { Adds n (Upto n (PairHere classes.now heights.now class height i.0)) pairs.old pairs.new }
 {
     let mut j = linked(slot_first, slot(class, height));
     while j < n {
@@ -80,7 +79,7 @@ pub(crate) fn mark_with(
     notes: &mut Notes,
 )
     requires { Column n classes.now heights.now × (SlotChains n classes.now heights.now slot_first.now slot_next.now × ((b ≤ n) × ((q < top) × ((i.0 < n) × Room n pairs.old)))) }
-    ensures { Adds n (PairsWith n (before classes) (before heights) p b q i.0) (before pairs) (after pairs) }
+    ensures { Adds n (PairsWith n classes.now heights.now p b q i.0) pairs.old pairs.new }
 {
     let k = i.0;
     let above = heights[k] + q;
@@ -113,7 +112,7 @@ fn mark_from(
     notes: &mut Notes,
 )
     requires { Chained n classes.now heights.now class_first.now class_next.now slot_first.now slot_next.now × ((a ≤ n) × ((b ≤ n) × ((q < top) × Room n pairs.old))) }
-    ensures { Adds n (Upto n (PairsFrom n (before classes) (before heights) a p b q)) (before pairs) (after pairs) }
+    ensures { Adds n (Upto n (PairsFrom n classes.now heights.now a p b q)) pairs.old pairs.new }
 {
     let mut i = linked(class_first, index(a));
     while i < n {
@@ -151,7 +150,7 @@ pub(crate) fn mark_between(
     notes: &mut Notes,
 )
     requires { Chained n classes.now heights.now class_first.now class_next.now slot_first.now slot_next.now × ((a ≤ n) × ((b ≤ n) × ((p < top) × ((q < top) × Room n pairs.old)))) }
-    ensures { Adds n (AtEither (before classes) (before heights) a p b q) (before pairs) (after pairs) }
+    ensures { Adds n (AtEither classes.now heights.now a p b q) pairs.old pairs.new }
 {
     let from_a = size(a, notes);
     let from_b = size(b, notes);

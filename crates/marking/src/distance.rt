@@ -1,6 +1,5 @@
 // All pairs of terms that stand as far apart as two places.
 ghost use Rattle.std.specs.Prelude.{◌<◌};
-ghost use Rattle.lists.specs.Lent.{before, after};
 ghost use Rattle.distances.specs.Distances.{Indexed};
 ghost use Rattle.points.specs.Places.{AtEither, Chained, top};
 ghost use Rattle.marking.specs.Known.{Uniform};
@@ -36,7 +35,7 @@ fn mark_many(
 )
     requires chained { Chained n points.now heights.now class_first.now class_next.now slot_first.now slot_next.now × Indexed n points.now heights.now apart.now levels.now from.now order.now starts.now entries.now }
     requires a_lt_n { (a < n) × ((b < n) × ((p < top) × ((q < top) × (Room n apart.now × (Room n pairs.old × Uniform n points.now heights.now pairs.old))))) }
-    ensures { Adds n (AtEither (before points) (before heights) a p b q) (before pairs) (after pairs) }
+    ensures { Adds n (AtEither points.now heights.now a p b q) pairs.old pairs.new }
 {
     if is_indexed(n, a, b, levels, apart) {
         mark_indexed(
@@ -111,7 +110,7 @@ pub fn mark_distance(
 )
     requires chained { Chained n points.now heights.now class_first.now class_next.now slot_first.now slot_next.now × Indexed n points.now heights.now apart.now levels.now from.now order.now starts.now entries.now }
     requires a_lt_n { (a < n) × ((b < n) × ((p < top) × ((q < top) × (Room n apart.now × (Room n pairs.old × Uniform n points.now heights.now pairs.old))))) }
-    ensures { Adds n (AtEither (before points) (before heights) a p b q) (before pairs) (after pairs) }
+    ensures { Adds n (AtEither points.now heights.now a p b q) pairs.old pairs.new }
 {
     if mark_single(
         n,

@@ -2,7 +2,6 @@
 // with that number is found by words, and any other one by its class.
 ghost use Rattle.std.specs.Prelude.{◌≡◌, ◌+◌, ◌*◌, ◌<◌, ◌≤◌, length};
 ghost use Rattle.lists.specs.Filled.{Filled};
-ghost use Rattle.lists.specs.Lent.{before, after};
 ghost use Rattle.outcome.specs.PairBits.{bit_value};
 ghost use Rattle.pairbits.specs.Bits.{is_set};
 ghost use Rattle.points.specs.Places.{class};
@@ -29,7 +28,7 @@ fn other_key(n: usize, t: usize, class: u32) -> u32
 // These keys of all terms.
 pub(crate) fn fill_others(n: usize, points: &[u32], others: &mut [u32])
     requires { (n ≤ length points.now) × (n ≤ length others.old) }
-    ensures { Filled (key_of_other n (before points)) 0 n (length (before others)) (after others) }
+    ensures { Filled (key_of_other n points.now) 0 n (length others.old) others.new }
 {
     for t in 0..n {
         others[t] = other_key(n, t, points[t]);
@@ -39,7 +38,7 @@ pub(crate) fn fill_others(n: usize, points: &[u32], others: &mut [u32])
 // Puts the homes that have the number of their class into a mask.
 pub(crate) fn fill_selves(n: usize, points: &[u32], selves: &mut [u64])
     requires { (n ≤ most) × ((n ≤ length points.now) × (selves.old ≡ zeros 8)) }
-    ensures { Selves n n (before points) (after selves) }
+    ensures { Selves n n points.now selves.new }
 {
     for t in 0..n {
         if index(points[t]) != t {
@@ -52,7 +51,7 @@ pub(crate) fn fill_selves(n: usize, points: &[u32], selves: &mut [u64])
 // Puts those whose classes are apart from class a into a mask.
 fn far_selves(n: usize, a: usize, selves: &[u64], apart: &[u8], far: &mut [u64])
     requires { (n ≤ most) × ((a < n) × (length far.old ≡ 8)) }
-    ensures { FarSelves (a * n) (before apart) (before selves) 8 (after far) }
+    ensures { FarSelves (a * n) apart.now selves.now 8 far.new }
 {
     let start = pair_number(n, TermNumber(a), TermNumber(0));
     for w in 0..8 {
@@ -63,7 +62,7 @@ fn far_selves(n: usize, a: usize, selves: &[u64], apart: &[u8], far: &mut [u64])
 // Puts t into a mask, if its class is apart from class a.
 fn put_far(n: usize, a: usize, t: TermNumber, points: &[u32], apart: &[u8], far: &mut [u64])
     requires { Inside n a t.0 × ((n ≤ length points.now) × ((class points.now t.0 < n) × (Room n apart.now × (length far.old ≡ 8)))) }
-    ensures { PutIf (is_set (before apart) (a * n + class (before points) t.0)) (before far) t.0 (after far) }
+    ensures { PutIf (is_set apart.now (a * n + class points.now t.0)) far.old t.0 far.new }
 {
     let k = t.0;
     if test_pair(n, TermNumber(a), TermNumber(index(points[k])), apart) {
@@ -84,7 +83,7 @@ fn far_others(
     far: &mut [u64],
 )
     requires { Split n points.now selves.now others.now other_first.now other_next.now × (Inside n a a × ((n ≤ length points.now) × (Room n apart.now × (length far.old ≡ 8)))) }
-    ensures { FarOthers n a (before apart) (before points) n (before far) (after far) }
+    ensures { FarOthers n a apart.now points.now n far.old far.new }
 {
     let mut t = linked(other_first, 1);
     while t < n {
@@ -106,7 +105,7 @@ pub(crate) fn far_homes(
     far: &mut [u64],
 )
     requires { Split n points.now selves.now others.now other_first.now other_next.now × (Inside n a a × ((n ≤ length points.now) × (Room n apart.now × (length far.old ≡ 8)))) }
-    ensures { FarMask n (before apart) (before points) a (after far) }
+    ensures { FarMask n apart.now points.now a far.new }
 {
     far_selves(n, a, selves, apart, far);
     far_others(

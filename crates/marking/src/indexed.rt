@@ -1,6 +1,5 @@
 // The pairs of terms that stand as far apart as two places, by the index of distances.
 ghost use Rattle.std.specs.Prelude.{◌≡◌, ◌+◌, ◌*◌, ◌<◌, ◌≤◌, true, false, length, slice_index};
-ghost use Rattle.lists.specs.Lent.{before, after};
 ghost use Rattle.tables.specs.Limits.{most};
 ghost use Rattle.pairbits.specs.Bits.{is_set};
 ghost use Rattle.points.specs.Places.{AtEither, class_slots, Column, SlotChains, top};
@@ -18,7 +17,7 @@ use types::TermNumber;
 // Whether the pairs of the classes a and b are in the index, by points of a.
 pub(crate) fn is_indexed(n: usize, a: u32, b: u32, levels: &[u16], apart: &[u8]) -> bool
     requires { (n ≤ most) × ((a < n) × ((b < n) × ((length levels.now ≡ class_slots) × Room n apart.now))) }
-    ensures { result ≡ true → (comes_before (before levels) a b ≡ true) × (is_set (before apart) (a * n + b) ≡ false) }
+    ensures { result ≡ true → (comes_before levels.now a b ≡ true) × (is_set apart.now (a * n + b) ≡ false) }
 {
     if !is_before(a, b, levels) {
         return false;
@@ -34,7 +33,7 @@ fn wide(start: u32) -> usize
 
 // Where a bucket starts; 0 past the last one.
 fn start_of(k: usize, starts: &[u32]) -> usize
-    ensures { result ≡ slice_index (before starts) k }
+    ensures { result ≡ slice_index starts.now k }
 {
     if k < starts.len() {
         return wide(starts[k]);
@@ -62,7 +61,7 @@ fn mark_candidate(
 )
     requires column { Column n points.now heights.now × (SlotChains n points.now heights.now slot_first.now slot_next.now × (length from.now ≡ class_slots)) }
     requires a_lt_n { (a < n) × ((b < n) × ((q < top) × Room n pairs.old)) }
-    ensures { Adds n (Candidate n (before points) (before heights) (before from) (before order) (before entries) a p b q c) (before pairs) (after pairs) }
+    ensures { Adds n (Candidate n points.now heights.now from.now order.now entries.now a p b q c) pairs.old pairs.new }
 {
     if entries.len() <= c {
         return;
@@ -110,7 +109,7 @@ fn mark_candidates(
 )
     requires column { Column n points.now heights.now × (SlotChains n points.now heights.now slot_first.now slot_next.now × (length from.now ≡ class_slots)) }
     requires a_lt_n { (a < n) × ((b < n) × ((q < top) × Room n pairs.old)) }
-    ensures { Adds n (Span start end (Candidate n (before points) (before heights) (before from) (before order) (before entries) a p b q)) (before pairs) (after pairs) }
+    ensures { Adds n (Span start end (Candidate n points.now heights.now from.now order.now entries.now a p b q)) pairs.old pairs.new }
 {
     for c in start..end {
         mark_candidate(
@@ -142,7 +141,7 @@ pub(crate) fn mark_indexed(
 )
     requires column { Column n points.now heights.now × (SlotChains n points.now heights.now slot_first.now slot_next.now × Indexed n points.now heights.now apart.now levels.now from.now order.now starts.now entries.now) }
     requires a_lt_n { (a < n) × ((b < n) × ((p < top) × ((q < top) × ((comes_before levels.now a b ≡ true) × ((is_set apart.now (a * n + b) ≡ false) × Room n pairs.old))))) }
-    ensures { Adds n (AtEither (before points) (before heights) a p b q) (before pairs) (after pairs) }
+    ensures { Adds n (AtEither points.now heights.now a p b q) pairs.old pairs.new }
 {
     let k = bucket(a, p, b, q);
     let start = start_of(k, starts);

@@ -1,6 +1,5 @@
 // Whether the pairs as far apart as two places are known to be set: one of them that is set tells it of all.
 ghost use Rattle.std.specs.Prelude.{◌≡◌, ◌<◌, ◌≤◌, true};
-ghost use Rattle.lists.specs.Lent.{before};
 ghost use Rattle.points.specs.Places.{Chained, Column, SlotChains, top};
 ghost use Rattle.marking.specs.Marks.{Room};
 ghost use Rattle.marking.specs.Known.{Known, KnownAt, KnownWith};
@@ -22,7 +21,7 @@ fn known_place(
     pairs: &[u8],
 ) -> bool
     requires { Column n classes.now heights.now × (SlotChains n classes.now heights.now slot_first.now slot_next.now × ((class ≤ n) × ((height < top) × ((i.0 < n) × Room n pairs.now)))) }
-    ensures { result ≡ true → KnownAt n (before classes) (before heights) (before pairs) class height i.0 }
+    ensures { result ≡ true → KnownAt n classes.now heights.now pairs.now class height i.0 }
 {
     let mut j = linked(slot_first, slot(class, height));
     while j < n {
@@ -48,7 +47,7 @@ fn known_with(
     pairs: &[u8],
 ) -> bool
     requires { Column n classes.now heights.now × (SlotChains n classes.now heights.now slot_first.now slot_next.now × ((b ≤ n) × ((q < top) × ((i.0 < n) × Room n pairs.now)))) }
-    ensures { result ≡ true → KnownWith n (before classes) (before heights) (before pairs) p b q i.0 }
+    ensures { result ≡ true → KnownWith n classes.now heights.now pairs.now p b q i.0 }
 {
     let k = i.0;
     let above = heights[k] + q;
@@ -83,7 +82,7 @@ pub(crate) fn is_known(
     pairs: &[u8],
 ) -> bool
     requires { Chained n classes.now heights.now class_first.now class_next.now slot_first.now slot_next.now × ((a ≤ n) × ((b ≤ n) × ((q < top) × Room n pairs.now))) }
-    ensures { result ≡ true → Known n (before classes) (before heights) (before pairs) a p b q }
+    ensures { result ≡ true → Known n classes.now heights.now pairs.now a p b q }
 {
     let mut i = linked(class_first, index(a));
     for _ in 0..LOOKS {

@@ -1,7 +1,6 @@
 // The pairs of two classes that have one point each, as most classes have.
 ghost use Rattle.std.specs.Prelude.{◌<◌};
 ghost use Rattle.buckets.specs.Buckets.{Chains};
-ghost use Rattle.lists.specs.Lent.{before, after};
 ghost use Rattle.points.specs.Places.{class_slots, Column, top};
 ghost use Rattle.marking.specs.Marks.{Room};
 ghost use Rattle.marking.specs.Single.{Single};
@@ -26,7 +25,7 @@ pub(crate) fn mark_single(
     notes: &mut Notes,
 ) -> bool
     requires { Column n points.now heights.now × (Chains n class_slots points.now class_first.now class_next.now × ((a < n) × ((b < n) × ((p < top) × ((q < top) × Room n pairs.old))))) }
-    ensures { Single n (before points) (before heights) a p b q result (before pairs) (after pairs) }
+    ensures { Single n points.now heights.now a p b q result pairs.old pairs.new }
 {
     let i = linked(class_first, index(a));
     let j = linked(class_first, index(b));

@@ -1,6 +1,5 @@
 // The test of the lent memory, and cells that are all written. Public for the crates `blame` and `solver`.
 ghost use Rattle.std.specs.Prelude.{◌≡◌, ◌≤◌, length, replicate};
-ghost use Rattle.lists.specs.Lent.{before, after};
 ghost use Rattle.tables.specs.Limits.{most};
 ghost use Rattle.tables.specs.TableFaults.{acceptance};
 ghost use Rattle.tables.specs.Memory.{room_fault};
@@ -30,7 +29,7 @@ pub fn check_memory(
 
 // Writes the value to every cell.
 pub fn fill(cells: &mut [u8], value: u8)
-    ensures { after cells ≡ replicate (length (before cells)) value }
+    ensures { cells.new ≡ replicate (length cells.old) value }
 {
     for k in 0..cells.len() {
         cells[k] = value;

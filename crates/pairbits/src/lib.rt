@@ -1,13 +1,12 @@
 // One bit of a byte table: bit i is bit i % 8, lowest first, of byte i / 8. Public for the crates `words`, `distances`,
 // `marking` and `refusals`.
 ghost use Rattle.std.specs.Prelude.{◌≡◌, ◌/◌, ◌<◌, length};
-ghost use Rattle.lists.specs.Lent.{before, after};
 ghost use Rattle.pairbits.specs.Bits.{is_set, with_bit};
 
 // Sets bit i. The caller knows that the table holds it.
 pub fn set_bit(bytes: &mut [u8], i: usize)
     requires { i / 8 < length bytes.old }
-    ensures { after bytes ≡ with_bit (before bytes) i }
+    ensures { bytes.new ≡ with_bit bytes.old i }
 {
     let k = i / 8;
     bytes[k] = bytes[k] | (1u8 << (i % 8));
@@ -16,7 +15,7 @@ pub fn set_bit(bytes: &mut [u8], i: usize)
 // Whether bit i is 1.
 pub fn test_bit(bytes: &[u8], i: usize) -> bool
     requires { i / 8 < length bytes.now }
-    ensures { result ≡ is_set (before bytes) i }
+    ensures { result ≡ is_set bytes.now i }
 {
     ((bytes[i / 8] >> (i % 8)) & 1) == 1
 }

@@ -1,6 +1,5 @@
 // The table of apart classes: the bit of two representatives is set where their classes are given apart.
 ghost use Rattle.std.specs.Prelude.{◌≡◌, ◌<◌, eqb, length, get_or};
-ghost use Rattle.lists.specs.Lent.{before, after};
 ghost use Rattle.tables.specs.Records.{variable_kind};
 ghost use Rattle.tables.specs.Rows.{term_in, proposition_in};
 ghost use Rattle.tables.specs.Sets.{set_of};
@@ -18,14 +17,14 @@ use words::{contains, put};
 // The class of term t, as the number of a term.
 fn class_of(reps: &[u32], t: usize) -> TermNumber
     requires { t < length reps.now }
-    ensures { result.0 ≡ get_or (before reps) t 0 }
+    ensures { result.0 ≡ get_or reps.now t 0 }
 {
     TermNumber(points::places::index(reps[t]))
 }
 
 fn is_variable(terms: &[TermRow], t: TermNumber) -> bool
     requires { t.0 < length terms.now }
-    ensures { result ≡ eqb (term_in (before terms) t.0).kind variable_kind }
+    ensures { result ≡ eqb (term_in terms.now t.0).kind variable_kind }
 {
     term_at(terms, t).kind == VARIABLE
 }
@@ -39,7 +38,7 @@ fn mark_block(
     table: &mut [u8],
 )
     requires { Classed terms.now propositions.now reps.now × ((k.0 < length propositions.now) × Room (length terms.now) table.old) }
-    ensures { Adds (length (before terms)) (BlockPair (proposition_in (before propositions)) (before reps) k.0) (before table) (after table) }
+    ensures { Adds (length terms.now) (BlockPair (proposition_in propositions.now) reps.now k.0) table.old table.new }
 {
     let r = proposition_at(propositions, k);
     if r.kind != BLOCK_DISEQUALITY {
@@ -53,7 +52,7 @@ fn mark_block(
 // The classes of block disequalities.
 fn mark_blocks(terms: &[TermRow], propositions: &[PropositionRow], reps: &[u32], table: &mut [u8])
     requires { Classed terms.now propositions.now reps.now × Room (length terms.now) table.old }
-    ensures { Adds (length (before terms)) (Upto (length (before propositions)) (BlockPair (proposition_in (before propositions)) (before reps))) (before table) (after table) }
+    ensures { Adds (length terms.now) (Upto (length propositions.now) (BlockPair (proposition_in propositions.now) reps.now)) table.old table.new }
 {
     for k in 0..propositions.len() {
         mark_block(terms, propositions, reps, PropositionNumber(k), table);
@@ -63,7 +62,7 @@ fn mark_blocks(terms: &[TermRow], propositions: &[PropositionRow], reps: &[u32],
 // Puts a class into a mask, and sets its own bit if it is there already.
 fn put_class(n: usize, c: TermNumber, mask: &mut [u64], table: &mut [u8])
     requires { Inside n c.0 c.0 × ((length mask.old ≡ 8) × Room n table.old) }
-    ensures { VariablePut n c.0 (before mask) (after mask) (before table) (after table) }
+    ensures { VariablePut n c.0 mask.old mask.new table.old table.new }
 {
     let k = c.0;
     if contains(mask, k) {
@@ -76,7 +75,7 @@ fn put_class(n: usize, c: TermNumber, mask: &mut [u64], table: &mut [u8])
 // Puts the class of each variable into a mask. Where two variables are in one class, it is apart from itself.
 fn put_variables(terms: &[TermRow], reps: &[u32], mask: &mut [u64], table: &mut [u8])
     requires { Classes (length terms.now) reps.now × ((mask.old ≡ zeros 8) × Room (length terms.now) table.old) }
-    ensures { Gathered (length (before terms)) (term_in (before terms)) (before reps) (length (before terms)) (after mask) (before table) (after table) }
+    ensures { Gathered (length terms.now) (term_in terms.now) reps.now (length terms.now) mask.new table.old table.new }
 {
     for i in 0..terms.len() {
         if !is_variable(terms, TermNumber(i)) {
@@ -89,7 +88,7 @@ fn put_variables(terms: &[TermRow], reps: &[u32], mask: &mut [u64], table: &mut 
 // The class of each variable with those of a mask but itself.
 fn mark_rows(terms: &[TermRow], reps: &[u32], mask: &[u64], table: &mut [u8])
     requires { Classes (length terms.now) reps.now × (Below (length terms.now) mask.now × Room (length terms.now) table.old) }
-    ensures { Adds (length (before terms)) (Upto (length (before terms)) (VariableRow (length (before terms)) (term_in (before terms)) (before reps) (before mask))) (before table) (after table) }
+    ensures { Adds (length terms.now) (Upto (length terms.now) (VariableRow (length terms.now) (term_in terms.now) reps.now mask.now)) table.old table.new }
 {
     for i in 0..terms.len() {
         if !is_variable(terms, TermNumber(i)) {
@@ -103,7 +102,7 @@ fn mark_rows(terms: &[TermRow], reps: &[u32], mask: &[u64], table: &mut [u8])
 // The classes of variables.
 fn mark_variables(terms: &[TermRow], reps: &[u32], table: &mut [u8])
     requires { Classes (length terms.now) reps.now × Room (length terms.now) table.old }
-    ensures { Adds (length (before terms)) (Upto (length (before terms)) (λ i. Upto (length (before terms)) (VariablePair (term_in (before terms)) (before reps) i))) (before table) (after table) }
+    ensures { Adds (length terms.now) (Upto (length terms.now) (λ i. Upto (length terms.now) (VariablePair (term_in terms.now) reps.now i))) table.old table.new }
 {
     let mut mask = [0u64; 8];
     put_variables(terms, reps, &mut mask, table);
@@ -118,7 +117,7 @@ pub fn apart_classes(
     table: &mut [u8],
 )
     requires { Classed terms.now propositions.now reps.now × Room (length terms.now) table.old }
-    ensures { Adds (length (before terms)) (ApartClasses (set_of (before terms) (before propositions)) (before reps)) (before table) (after table) }
+    ensures { Adds (length terms.now) (ApartClasses (set_of terms.now propositions.now) reps.now) table.old table.new }
 {
     mark_blocks(terms, propositions, reps, table);
     mark_variables(terms, reps, table);

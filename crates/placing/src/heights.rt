@@ -1,6 +1,5 @@
 // Heights: offsets, lifted to numbers that are not negative.
 ghost use Rattle.std.specs.Prelude.{◌≡◌, ◌≤◌, ◌+ℤ◌, length};
-ghost use Rattle.lists.specs.Lent.{before, after};
 ghost use Rattle.integers.specs.Within.{Within};
 ghost use Rattle.labels.specs.Spread.{far};
 ghost use Rattle.tables.specs.Limits.{most, offset_limit};
@@ -31,7 +30,7 @@ pub fn moved(z: i64, o: i64) -> u64
 // The heights of the terms. Public for the crate `columns`.
 pub fn fill_heights(offs: &[i64], heights: &mut [u64])
     requires { (length offs.now ≤ most) × (Offsets (length offs.now) offs.now × (length heights.old ≡ most)) }
-    ensures { TermPlaces (length (before offs)) (before offs) (after heights) }
+    ensures { TermPlaces (length offs.now) offs.now heights.new }
 {
     for t in 0..offs.len() {
         heights[t] = lifted(offs[t]);

@@ -1,6 +1,5 @@
 // The places that dereferences read.
 ghost use Rattle.std.specs.Prelude.{◌≡◌, ◌+◌, ◌<◌, ◌≤◌, length};
-ghost use Rattle.lists.specs.Lent.{before, after};
 ghost use Rattle.integers.specs.Within.{Within};
 ghost use Rattle.tables.specs.Limits.{most, offset_limit};
 ghost use Rattle.tables.specs.Records.{deref_kind};
@@ -24,7 +23,7 @@ pub(crate) fn no_class(n: usize) -> u32
 fn read_class(terms: &[TermRow], reps: &[u32], t: TermNumber) -> u32
     requires t_in_bounds { (t.0 < length terms.now) × (length terms.now ≤ most) }
     requires t_in_bounds_2 { (term_in terms.now t.0).kind ≡ deref_kind → (term_in terms.now t.0).number < length reps.now }
-    ensures { ReadClass (length (before terms)) (term_in (before terms) t.0) (before reps) result }
+    ensures { ReadClass (length terms.now) (term_in terms.now t.0) reps.now result }
 {
     let r = term_at(terms, t);
     if r.kind != DEREF {
@@ -38,7 +37,7 @@ fn read_class(terms: &[TermRow], reps: &[u32], t: TermNumber) -> u32
 fn read_height(terms: &[TermRow], offs: &[i64], t: TermNumber) -> u64
     requires t_in_bounds { t.0 < length terms.now }
     requires within { (term_in terms.now t.0).kind ≡ deref_kind → Within offset_limit (term_in terms.now t.0).offset × Near offs.now (term_in terms.now t.0).number }
-    ensures { ReadHeight (term_in (before terms) t.0) (before offs) result }
+    ensures { ReadHeight (term_in terms.now t.0) offs.now result }
 {
     let r = term_at(terms, t);
     if r.kind != DEREF {
@@ -59,7 +58,7 @@ fn fill_read(
 )
     requires labelled_terms { LabelledTerms terms.now reps.now offs.now × (t.0 < length terms.now) }
     requires read_places { ReadPlaces (length terms.now) (term_in terms.now) reps.now offs.now t.0 reads.old read_heights.old }
-    ensures { ReadPlaces (length (before terms)) (term_in (before terms)) (before reps) (before offs) (t.0 + 1) (after reads) (after read_heights) }
+    ensures { ReadPlaces (length terms.now) (term_in terms.now) reps.now offs.now (t.0 + 1) reads.new read_heights.new }
 {
     let k = t.0;
     reads[k] = read_class(terms, reps, t);
@@ -76,7 +75,7 @@ pub fn fill_reads(
 )
     requires labelled_terms { LabelledTerms terms.now reps.now offs.now }
     requires reads_len { (length reads.old ≡ most) × (length read_heights.old ≡ most) }
-    ensures { ReadPlaces (length (before terms)) (term_in (before terms)) (before reps) (before offs) (length (before terms)) (after reads) (after read_heights) }
+    ensures { ReadPlaces (length terms.now) (term_in terms.now) reps.now offs.now (length terms.now) reads.new read_heights.new }
 {
     for t in 0..terms.len() {
         fill_read(terms, reps, offs, TermNumber(t), reads, read_heights);

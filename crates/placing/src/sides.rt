@@ -1,6 +1,5 @@
 // The places of the sides of propositions.
 ghost use Rattle.std.specs.Prelude.{◌≡◌, ◌+◌, ◌<◌, ◌≤◌, pos, ◌+ℤ◌, length, get_or};
-ghost use Rattle.lists.specs.Lent.{before, after};
 ghost use Rattle.integers.specs.Within.{Within};
 ghost use Rattle.tables.specs.Limits.{most, offset_limit};
 ghost use Rattle.tables.specs.Rows.{proposition_in};
@@ -15,7 +14,7 @@ use types::{DISEQUALITY, PropositionNumber, index};
 // The class of the left side of proposition k, if it is a disequality.
 fn left_class(n: usize, propositions: &[PropositionRow], reps: &[u32], k: PropositionNumber) -> u32
     requires { (k.0 < length propositions.now) × ((n ≤ most) × ((proposition_in propositions.now k.0).left < length reps.now)) }
-    ensures { LeftClass n (proposition_in (before propositions) k.0) (before reps) result }
+    ensures { LeftClass n (proposition_in propositions.now k.0) reps.now result }
 {
     let r = proposition_at(propositions, k);
     if r.kind != DISEQUALITY {
@@ -28,7 +27,7 @@ fn left_class(n: usize, propositions: &[PropositionRow], reps: &[u32], k: Propos
 // The height of the left side.
 fn left_height(propositions: &[PropositionRow], offs: &[i64], k: PropositionNumber) -> u64
     requires { (k.0 < length propositions.now) × Near offs.now (proposition_in propositions.now k.0).left }
-    ensures { Lifted result (get_or (before offs) (proposition_in (before propositions) k.0).left (pos 0)) }
+    ensures { Lifted result (get_or offs.now (proposition_in propositions.now k.0).left (pos 0)) }
 {
     let r = proposition_at(propositions, k);
     let left = index(r.left);
@@ -38,7 +37,7 @@ fn left_height(propositions: &[PropositionRow], offs: &[i64], k: PropositionNumb
 // The class of the right side.
 fn right_class(propositions: &[PropositionRow], reps: &[u32], k: PropositionNumber) -> u32
     requires { (k.0 < length propositions.now) × ((proposition_in propositions.now k.0).right < length reps.now) }
-    ensures { result ≡ get_or (before reps) (proposition_in (before propositions) k.0).right 0 }
+    ensures { result ≡ get_or reps.now (proposition_in propositions.now k.0).right 0 }
 {
     let r = proposition_at(propositions, k);
     let right = index(r.right);
@@ -48,7 +47,7 @@ fn right_class(propositions: &[PropositionRow], reps: &[u32], k: PropositionNumb
 // The height of the right side, with the offset.
 fn right_height(propositions: &[PropositionRow], offs: &[i64], k: PropositionNumber) -> u64
     requires { (k.0 < length propositions.now) × (Within offset_limit (proposition_in propositions.now k.0).offset × Near offs.now (proposition_in propositions.now k.0).right) }
-    ensures { Lifted result ((proposition_in (before propositions) k.0).offset +ℤ get_or (before offs) (proposition_in (before propositions) k.0).right (pos 0)) }
+    ensures { Lifted result ((proposition_in propositions.now k.0).offset +ℤ get_or offs.now (proposition_in propositions.now k.0).right (pos 0)) }
 {
     let r = proposition_at(propositions, k);
     let right = index(r.right);
@@ -69,7 +68,7 @@ fn fill_side(
 )
     requires labelled_sides { LabelledSides n propositions.now reps.now offs.now × (k.0 < length propositions.now) }
     requires side_places { SidePlaces n (proposition_in propositions.now) reps.now offs.now k.0 left_classes.old left_heights.old right_classes.old right_heights.old }
-    ensures { SidePlaces n (proposition_in (before propositions)) (before reps) (before offs) (k.0 + 1) (after left_classes) (after left_heights) (after right_classes) (after right_heights) }
+    ensures { SidePlaces n (proposition_in propositions.now) reps.now offs.now (k.0 + 1) left_classes.new left_heights.new right_classes.new right_heights.new }
 {
     let j = k.0;
     left_classes[j] = left_class(n, propositions, reps, k);
@@ -91,7 +90,7 @@ pub fn fill_sides(
 )
     requires labelled_sides { LabelledSides n propositions.now reps.now offs.now }
     requires left_classes_len { (length left_classes.old ≡ most) × ((length left_heights.old ≡ most) × ((length right_classes.old ≡ most) × (length right_heights.old ≡ most))) }
-    ensures { SidePlaces n (proposition_in (before propositions)) (before reps) (before offs) (length (before propositions)) (after left_classes) (after left_heights) (after right_classes) (after right_heights) }
+    ensures { SidePlaces n (proposition_in propositions.now) reps.now offs.now (length propositions.now) left_classes.new left_heights.new right_classes.new right_heights.new }
 {
     for k in 0..propositions.len() {
         fill_side(

@@ -1,6 +1,5 @@
 // The chains of a column of places, by class and by place.
 ghost use Rattle.std.specs.Prelude.{◌≡◌, ◌<◌, ◌≤◌, length};
-ghost use Rattle.lists.specs.Lent.{before, after};
 ghost use Rattle.lists.specs.Filled.{Filled};
 ghost use Rattle.points.specs.Places.{Chained, class_slots, Column, place_slot, SlotChains, slots};
 
@@ -22,7 +21,7 @@ pub(crate) fn narrow(slot: usize) -> u32
 // The bucket of each place.
 fn slot_column(n: usize, classes: &[u32], heights: &[u64], slotted: &mut [u32])
     requires { Column n classes.now heights.now × (n ≤ length slotted.old) }
-    ensures { Filled (place_slot (before classes) (before heights)) 0 n (length (before slotted)) (after slotted) }
+    ensures { Filled (place_slot classes.now heights.now) 0 n (length slotted.old) slotted.new }
 {
     for t in 0..n {
         slotted[t] = narrow(slot(classes[t], heights[t]));
@@ -32,7 +31,7 @@ fn slot_column(n: usize, classes: &[u32], heights: &[u64], slotted: &mut [u32])
 // The chains by place.
 fn chain_slots(n: usize, classes: &[u32], heights: &[u64], first: &mut [u16], next: &mut [u16])
     requires { Column n classes.now heights.now × ((length first.old ≡ slots) × (n ≤ length next.old)) }
-    ensures { SlotChains n (before classes) (before heights) (after first) (after next) }
+    ensures { SlotChains n classes.now heights.now first.new next.new }
 {
     let mut slotted = [0u32; MOST];
     slot_column(n, classes, heights, &mut slotted);
@@ -51,7 +50,7 @@ pub fn chain_places(
 )
     requires column { Column n classes.now heights.now }
     requires class_first_len { (length class_first.old ≡ class_slots) × ((n ≤ length class_next.old) × ((length slot_first.old ≡ slots) × (n ≤ length slot_next.old))) }
-    ensures { Chained n (before classes) (before heights) (after class_first) (after class_next) (after slot_first) (after slot_next) }
+    ensures { Chained n classes.now heights.now class_first.new class_next.new slot_first.new slot_next.new }
 {
     chain(n, classes, class_first, class_next);
     chain_slots(n, classes, heights, slot_first, slot_next);

@@ -1,6 +1,5 @@
 // Homes: of the terms at one place the first stands for all of them.
 ghost use Rattle.std.specs.Prelude.{◌≡◌, ◌<◌, ◌≤◌, length, ◌==◌};
-ghost use Rattle.lists.specs.Lent.{before, after};
 ghost use Rattle.tables.specs.Limits.{most};
 ghost use Rattle.points.specs.Places.{Column, SlotChains, Terms};
 ghost use Rattle.points.specs.Homes.{FirstThere, Homes, point_of, Points};
@@ -19,7 +18,7 @@ fn first_there(
     slot_next: &[u16],
 ) -> usize
     requires { Column n classes.now heights.now × (SlotChains n classes.now heights.now slot_first.now slot_next.now × (t.0 < n)) }
-    ensures { FirstThere (before classes) (before heights) t.0 result }
+    ensures { FirstThere classes.now heights.now t.0 result }
 {
     let k = t.0;
     let class = classes[k];
@@ -44,7 +43,7 @@ pub fn fill_homes(
     homes: &mut [u32],
 )
     requires { Terms n classes.now heights.now × (SlotChains n classes.now heights.now slot_first.now slot_next.now × (n ≤ length homes.old)) }
-    ensures { Homes n (before classes) (before heights) (after homes) }
+    ensures { Homes n classes.now heights.now homes.new }
 {
     for t in 0..n {
         let j = first_there(n, TermNumber(t), classes, heights, slot_first, slot_next);
@@ -66,7 +65,7 @@ fn point(n: usize, t: TermNumber, class: u32, home: u32) -> u32
 // The class of each term that is its own home. Public for the crate `differences`.
 pub fn fill_points(n: usize, classes: &[u32], homes: &[u32], points: &mut [u32])
     requires { (n ≤ most) × ((n ≤ length classes.now) × ((n ≤ length homes.now) × (n ≤ length points.old))) }
-    ensures { Points n (before classes) (before homes) (after points) }
+    ensures { Points n classes.now homes.now points.new }
 {
     for t in 0..n {
         points[t] = point(n, TermNumber(t), classes[t], homes[t]);

@@ -1,6 +1,5 @@
 // Leads: of the dereferences that read one place, and have one home, one stands for all of them.
 ghost use Rattle.std.specs.Prelude.{◌≡◌, ◌+◌, ◌<◌, ◌≤◌, true, length};
-ghost use Rattle.lists.specs.Lent.{before, after};
 ghost use Rattle.tables.specs.Limits.{most};
 ghost use Rattle.points.specs.Places.{Column, slots};
 ghost use Rattle.points.specs.Leads.{Leading, Leads, Led, Looking, SameRead};
@@ -32,7 +31,7 @@ fn reads_same(
     read_heights: &[u64],
 ) -> bool
     requires { Column n reads.now read_heights.now × ((n ≤ length homes.now) × ((u.0 < n) × (t.0 < n))) }
-    ensures { result ≡ true → SameRead (before homes) (before reads) (before read_heights) u.0 t.0 }
+    ensures { result ≡ true → SameRead homes.now reads.now read_heights.now u.0 t.0 }
 {
     let x = u.0;
     let y = t.0;
@@ -51,7 +50,7 @@ fn is_led(
     leads: &[u16],
 ) -> bool
     requires { Looking n homes.now reads.now read_heights.now leads.now r t.0 }
-    ensures { result ≡ true → Led (before homes) (before reads) (before read_heights) (before leads) r t.0 }
+    ensures { result ≡ true → Led homes.now reads.now read_heights.now leads.now r t.0 }
 {
     if r <= k {
         return false;
@@ -78,7 +77,7 @@ fn find_lead(
     seen: &Seen,
 ) -> usize
     requires { Looking n homes.now reads.now read_heights.now leads.now r t.0 }
-    ensures { slots ≤ result → Led (before homes) (before reads) (before read_heights) (before leads) r t.0 }
+    ensures { slots ≤ result → Led homes.now reads.now read_heights.now leads.now r t.0 }
 {
     let y = t.0;
     let start = slot(reads[y], read_heights[y]);
@@ -108,7 +107,7 @@ fn add_lead(
 ) -> usize
     requires column { Column n reads.now read_heights.now × ((n ≤ length homes.now) × ((n ≤ length leads.old) × (t.0 < n))) }
     requires leading { Leading n t.0 (length leads.old) homes.now reads.now read_heights.now leads.old r }
-    ensures { Leading n (t.0 + 1) (length (before leads)) (before homes) (before reads) (before read_heights) (after leads) result }
+    ensures { Leading n (t.0 + 1) (length leads.old) homes.now reads.now read_heights.now leads.new result }
 {
     let y = t.0;
     if n <= index(reads[y]) {
@@ -132,7 +131,7 @@ pub fn fill_leads(
     leads: &mut [u16],
 ) -> usize
     requires { Column n reads.now read_heights.now × ((n ≤ length homes.now) × (n ≤ length leads.old)) }
-    ensures { Leads n (before homes) (before reads) (before read_heights) (after leads) result }
+    ensures { Leads n homes.now reads.now read_heights.now leads.new result }
 {
     let mut seen = [0u16; SLOTS];
     let mut r = 0;

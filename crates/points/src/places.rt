@@ -1,7 +1,6 @@
 // Places: a class, and a height in it. A term has a place, and a dereference reads one. Public for the crates `distances`, `marking`,
 // `expansion`, `settling`, `differences`, `placing`, `questions` and `columns`.
 ghost use Rattle.std.specs.Prelude.{◌≡◌, ◌*◌, ◌<◌, ◌≤◌, length, slice_index};
-ghost use Rattle.lists.specs.Lent.{before};
 ghost use Rattle.tables.specs.Limits.{most};
 ghost use Rattle.points.specs.Places.{is_here, slot_of, slots, top};
 
@@ -39,7 +38,7 @@ pub fn index(class: u32) -> usize
 // The first number of a chain, or the next one.
 pub fn linked(links: &[u16], k: usize) -> usize
     requires { k < length links.now }
-    ensures { result ≡ slice_index (before links) k }
+    ensures { result ≡ slice_index links.now k }
 {
     wide(links[k])
 }
@@ -47,7 +46,7 @@ pub fn linked(links: &[u16], k: usize) -> usize
 // Whether t is at the place.
 pub fn is_at(t: TermNumber, class: u32, height: u64, classes: &[u32], heights: &[u64]) -> bool
     requires { (t.0 < length classes.now) × (t.0 < length heights.now) }
-    ensures { result ≡ is_here (before classes) (before heights) class height t.0 }
+    ensures { result ≡ is_here classes.now heights.now class height t.0 }
 {
     let k = t.0;
     (classes[k] == class) & (heights[k] == height)

@@ -3,7 +3,6 @@
 pub mod sides;
 
 ghost use Rattle.std.specs.Prelude.{◌≡◌, ◌<◌, ◌≤◌};
-ghost use Rattle.lists.specs.Lent.{before};
 ghost use Rattle.tables.specs.Limits.{most};
 ghost use Rattle.marking.specs.Marks.{Inside, Room};
 ghost use Rattle.points.specs.Places.{Chained, Column, SlotChains, top};
@@ -44,7 +43,7 @@ fn shows_side(
     right_heights: &[u64],
 ) -> bool
     requires { Row left_classes.now left_heights.now right_classes.now right_heights.now k.0 × ((p < top) × (q < top)) }
-    ensures { result ≡ is_row_shown (before left_classes) (before left_heights) (before right_classes) (before right_heights) a p b q k.0 }
+    ensures { result ≡ is_row_shown left_classes.now left_heights.now right_classes.now right_heights.now a p b q k.0 }
 {
     let i = k.0;
     let c = left_classes[i];
@@ -70,7 +69,7 @@ fn any_side(
 ) -> bool
     requires rows { Rows m left_classes.now left_heights.now right_classes.now right_heights.now × ((p < top) × (q < top)) }
     requires side_chains { SideChains m left_classes.now left_heights.now right_heights.now side_first.now side_next.now × (a ≤ most) }
-    ensures { Found m (OneWay (before left_classes) (before left_heights) (before right_classes) (before right_heights) m a p b q) result }
+    ensures { Found m (OneWay left_classes.now left_heights.now right_classes.now right_heights.now m a p b q) result }
 {
     let mut k = linked(side_first, slot(a, p + TOP - q));
     while k < m {
@@ -108,7 +107,7 @@ fn any_listed(
 ) -> bool
     requires rows { Rows m left_classes.now left_heights.now right_classes.now right_heights.now × ((p < top) × (q < top)) }
     requires side_chains { SideChains m left_classes.now left_heights.now right_heights.now side_first.now side_next.now × ((a ≤ most) × (b ≤ most)) }
-    ensures { Found m (Listed (before left_classes) (before left_heights) (before right_classes) (before right_heights) a p b q) result }
+    ensures { Found m (Listed left_classes.now left_heights.now right_classes.now right_heights.now a p b q) result }
 {
     let there = any_side(
         m,
@@ -142,7 +141,7 @@ fn any_listed(
 // Whether the bit of a pair is set, or that of its mirror image.
 fn test_either(n: usize, i: TermNumber, j: TermNumber, mirrored: bool, pairs: &[u8]) -> bool
     requires { Inside n i.0 j.0 × Room n pairs.now }
-    ensures { result ≡ bit_of n (before pairs) mirrored i.0 j.0 }
+    ensures { result ≡ bit_of n pairs.now mirrored i.0 j.0 }
 {
     if mirrored {
         return test_pair(n, j, i, pairs);
@@ -163,7 +162,7 @@ fn differs_there(
     pairs: &[u8],
 ) -> bool
     requires { Column n reads.now read_heights.now × (Inside n i.0 j.0 × Room n pairs.now) }
-    ensures { result ≡ is_met n (before reads) (before read_heights) (before pairs) mirrored class height i.0 j.0 }
+    ensures { result ≡ is_met n reads.now read_heights.now pairs.now mirrored class height i.0 j.0 }
 {
     if !is_at(j, class, height, reads, read_heights) {
         return false;
@@ -185,7 +184,7 @@ fn any_there(
     pairs: &[u8],
 ) -> bool
     requires { Column n reads.now read_heights.now × (SlotChains n reads.now read_heights.now slot_first.now slot_next.now × ((class ≤ n) × ((height < top) × ((i.0 < n) × Room n pairs.now)))) }
-    ensures { Found n (Met n (before reads) (before read_heights) (before pairs) mirrored class height i.0) result }
+    ensures { Found n (Met n reads.now read_heights.now pairs.now mirrored class height i.0) result }
 {
     let mut j = linked(slot_first, slot(class, height));
     while j < n {
@@ -222,7 +221,7 @@ fn any_with(
     pairs: &[u8],
 ) -> bool
     requires { Column n reads.now read_heights.now × (SlotChains n reads.now read_heights.now slot_first.now slot_next.now × ((b ≤ n) × ((p < top) × ((q < top) × ((i.0 < n) × Room n pairs.now))))) }
-    ensures { Found n (Opposed n (before reads) (before read_heights) (before pairs) mirrored p b q i.0) result }
+    ensures { Found n (Opposed n reads.now read_heights.now pairs.now mirrored p b q i.0) result }
 {
     let k = i.0;
     let above = read_heights[k] + q;
@@ -264,7 +263,7 @@ fn any_from(
     pairs: &[u8],
 ) -> bool
     requires { Chained n reads.now read_heights.now class_first.now class_next.now slot_first.now slot_next.now × ((a ≤ n) × ((b ≤ n) × ((p < top) × ((q < top) × Room n pairs.now)))) }
-    ensures { Found n (From n (before reads) (before read_heights) (before pairs) mirrored a p b q) result }
+    ensures { Found n (From n reads.now read_heights.now pairs.now mirrored a p b q) result }
 {
     let mut i = linked(class_first, index(a));
     while i < n {
@@ -305,7 +304,7 @@ fn any_values(
     pairs: &[u8],
 ) -> bool
     requires { Chained n reads.now read_heights.now class_first.now class_next.now slot_first.now slot_next.now × ((a ≤ n) × ((b ≤ n) × ((p < top) × ((q < top) × Room n pairs.now)))) }
-    ensures { FoundPair n (before reads) (before read_heights) (before pairs) a p b q result }
+    ensures { FoundPair n reads.now read_heights.now pairs.now a p b q result }
 {
     if is_smaller(b, a, sizes) {
         return any_from(
@@ -367,7 +366,7 @@ pub fn judge(
 ) -> Answer
     requires judging { Judging n m reads.now read_heights.now class_first.now class_next.now slot_first.now slot_next.now left_classes.now left_heights.now right_classes.now right_heights.now side_first.now side_next.now apart.now pairs.now }
     requires a_lt_n { (a < n) × ((b < n) × ((p < top) × (q < top))) }
-    ensures { Judged n m (before reads) (before read_heights) (before left_classes) (before left_heights) (before right_classes) (before right_heights) (before apart) (before pairs) a p b q result }
+    ensures { Judged n m reads.now read_heights.now left_classes.now left_heights.now right_classes.now right_heights.now apart.now pairs.now a p b q result }
 {
     if same_place(a, p, b, q) {
         return Answer::Equal;

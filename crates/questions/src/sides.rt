@@ -1,6 +1,5 @@
 // The chains of the disequalities by their left class and the distance of their sides.
 ghost use Rattle.std.specs.Prelude.{◌≡◌, ◌<◌, ◌≤◌, length};
-ghost use Rattle.lists.specs.Lent.{before, after};
 ghost use Rattle.lists.specs.Filled.{Filled};
 ghost use Rattle.points.specs.Places.{slots};
 ghost use Rattle.questions.specs.Sides.{SideChains, SideColumns, slot_of_side};
@@ -26,7 +25,7 @@ fn side_slot(
     right_heights: &[u64],
 ) -> u32
     requires { SideColumns m left_classes.now left_heights.now right_heights.now × (k.0 < m) }
-    ensures { result ≡ slot_of_side (before left_classes) (before left_heights) (before right_heights) k.0 }
+    ensures { result ≡ slot_of_side left_classes.now left_heights.now right_heights.now k.0 }
 {
     let i = k.0;
     let far = left_heights[i] + TOP - right_heights[i];
@@ -42,7 +41,7 @@ fn side_slots(
     slotted: &mut [u32],
 )
     requires { SideColumns m left_classes.now left_heights.now right_heights.now × (m ≤ length slotted.old) }
-    ensures { Filled (slot_of_side (before left_classes) (before left_heights) (before right_heights)) 0 m (length (before slotted)) (after slotted) }
+    ensures { Filled (slot_of_side left_classes.now left_heights.now right_heights.now) 0 m (length slotted.old) slotted.new }
 {
     for k in 0..m {
         slotted[k] = side_slot(
@@ -65,7 +64,7 @@ pub fn chain_sides(
     next: &mut [u16],
 )
     requires { SideColumns m left_classes.now left_heights.now right_heights.now × ((length first.old ≡ slots) × (m ≤ length next.old)) }
-    ensures { SideChains m (before left_classes) (before left_heights) (before right_heights) (after first) (after next) }
+    ensures { SideChains m left_classes.now left_heights.now right_heights.now first.new next.new }
 {
     let mut slotted = [0u32; MOST];
     side_slots(m, left_classes, left_heights, right_heights, &mut slotted);

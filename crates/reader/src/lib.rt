@@ -2,7 +2,6 @@
 mod load;
 
 ghost use Rattle.std.specs.Prelude.{◌≡◌};
-ghost use Rattle.lists.specs.Lent.{before, after};
 ghost use Rattle.frames.specs.Rows.{rows};
 ghost use Rattle.reader.specs.Answers.{short, ReadAs, part_at_fault, PartAt, HandedBack};
 
@@ -46,8 +45,8 @@ pub fn read(
     propositions: &mut [PropositionRow],
     questions: &mut [QuestionRow],
 ) -> ReadResult
-    ensures { ReadAs (before text) (rows (before terms) (before propositions) (before questions)) result
-        (rows (after terms) (after propositions) (after questions)) }
+    ensures { ReadAs text.now (rows terms.old propositions.old questions.old) result
+        (rows terms.new propositions.new questions.new) }
 {
     if short(terms.len(), propositions.len(), questions.len()) {
         return ReadResult::Refused(Fault {
@@ -83,7 +82,7 @@ pub fn read(
 // Where the faulty line of a text stands, without its LF, for tables with room for so many records; on success an empty part at the start.
 // Public for the crate `bucketmonk_c`, which cannot return a part of a text.
 pub fn faulty_part(text: &[u8], terms: usize, propositions: usize, questions: usize) -> FaultyPart
-    ensures { PartAt (before text) result (part_at_fault (before text) terms propositions questions) }
+    ensures { PartAt text.now result (part_at_fault text.now terms propositions questions) }
 {
     if short(terms, propositions, questions) {
         return FaultyPart { start: 0, size: 0 };
@@ -96,7 +95,7 @@ pub fn faulty_part(text: &[u8], terms: usize, propositions: usize, questions: us
 
 // That part of the text.
 pub fn faulty_line(text: &[u8], terms: usize, propositions: usize, questions: usize) -> &[u8]
-    ensures { HandedBack text.entry result (part_at_fault (before text) terms propositions questions) }
+    ensures { HandedBack text.entry result (part_at_fault text.now terms propositions questions) }
 {
     let part = faulty_part(text, terms, propositions, questions);
     let start = part.start;

@@ -1,5 +1,4 @@
 // The lines of a text, one after another, into rows.
-ghost use Rattle.lists.specs.Lent.{before, after};
 ghost use Rattle.frames.specs.Rows.{rows, RoomForMost};
 ghost use Rattle.reader.specs.Loading.{Lined, JudgedAs, LoadedAs};
 
@@ -21,8 +20,8 @@ pub(crate) fn take_line(
     questions: &mut [QuestionRow],
 ) -> Next
     requires { RoomForMost (rows terms.old propositions.old questions.old) }
-    ensures { Lined (record { characters = before line; ended = ended }) counts
-        (rows (before terms) (before propositions) (before questions)) result (rows (after terms) (after propositions) (after questions)) }
+    ensures { Lined (record { characters = line.now; ended = ended }) counts
+        (rows terms.old propositions.old questions.old) result (rows terms.new propositions.new questions.new) }
 {
     if !ended {
         return Next::Refused(Refusal::Malformed);
@@ -42,8 +41,8 @@ pub(crate) fn load(
     questions: &mut [QuestionRow],
 ) -> Loaded
     requires { RoomForMost (rows terms.old propositions.old questions.old) }
-    ensures { LoadedAs (before text) (rows (before terms) (before propositions) (before questions)) result
-        (rows (after terms) (after propositions) (after questions)) }
+    ensures { LoadedAs text.now (rows terms.old propositions.old questions.old) result
+        (rows terms.new propositions.new questions.new) }
 {
     let mut counts = Counts {
         terms: 0,
@@ -71,7 +70,7 @@ pub(crate) fn load(
 
 // The answer for a text, with rows of its own.
 pub(crate) fn judge(text: &[u8]) -> Loaded
-    ensures { JudgedAs (before text) result }
+    ensures { JudgedAs text.now result }
 {
     let mut terms = [[0u64; 3]; MOST];
     let mut propositions = [[0u64; 4]; MOST];

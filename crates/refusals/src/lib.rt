@@ -5,7 +5,6 @@ mod questions;
 mod terms;
 
 ghost use Rattle.std.specs.Prelude.{◌≡◌, length};
-ghost use Rattle.lists.specs.Lent.{before};
 ghost use Rattle.tables.specs.Limits.{most};
 ghost use Rattle.tables.specs.TableFaults.{tables_of, lengths_fault, records_fault, tables_fault, acceptance};
 
@@ -51,7 +50,7 @@ pub fn check_records(
     propositions: &[PropositionRow],
     questions: &[QuestionRow],
 ) -> Acceptance
-    ensures { let T = before terms in let P = before propositions in let Q = before questions in
+    ensures { let T = terms.now in let P = propositions.now in let Q = questions.now in
         result ≡ acceptance (records_fault (tables_of (length T) T (length P) P (length Q) Q)) }
 {
     let found = check_terms(terms);
@@ -74,7 +73,7 @@ pub fn check_tables(
     q: usize,
     questions: &[QuestionRow],
 ) -> Acceptance
-    ensures { result ≡ acceptance (tables_fault most (tables_of n (before terms) m (before propositions) q (before questions))) }
+    ensures { result ≡ acceptance (tables_fault most (tables_of n terms.now m propositions.now q questions.now)) }
 {
     let sizes = check_sizes(n, terms.len(), m, propositions.len(), q, questions.len());
     let Acceptance::Accepted = sizes else {

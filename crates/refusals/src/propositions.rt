@@ -1,6 +1,5 @@
 // The refusals of propositions: 9 and 6.
 ghost use Rattle.std.specs.Prelude.{◌≡◌, length};
-ghost use Rattle.lists.specs.Lent.{before};
 ghost use Rattle.lists.specs.Search.{is_some};
 ghost use Rattle.tables.specs.Records.{proposition_of};
 ghost use Rattle.tables.specs.Refusals.{proposition_fault};
@@ -43,7 +42,7 @@ fn judge_proposition(n: usize, r: PropositionRecord, p: PropositionNumber) -> Ac
 
 // The first refusal of the propositions, with n terms listed.
 pub(crate) fn check_propositions(n: usize, propositions: &[PropositionRow]) -> Acceptance
-    ensures { result ≡ acceptance (propositions_fault n (length (before propositions)) (proposition_in (before propositions))) }
+    ensures { result ≡ acceptance (propositions_fault n (length propositions.now) (proposition_in propositions.now)) }
 {
     for i in 0..propositions.len() {
         let p = PropositionNumber(i);

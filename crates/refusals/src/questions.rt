@@ -1,6 +1,5 @@
 // The refusals of questions: 9 and 7.
 ghost use Rattle.std.specs.Prelude.{◌≡◌, length};
-ghost use Rattle.lists.specs.Lent.{before};
 ghost use Rattle.tables.specs.Refusals.{question_fault};
 ghost use Rattle.tables.specs.Rows.{question_in};
 ghost use Rattle.tables.specs.QuestionTable.{asked, questions_fault};
@@ -27,7 +26,7 @@ fn judge_question(n: usize, r: QuestionRecord, q: QuestionNumber) -> Acceptance
 
 // The first refusal of the questions, with n terms listed.
 pub(crate) fn check_questions(n: usize, questions: &[QuestionRow]) -> Acceptance
-    ensures { result ≡ acceptance (questions_fault n (length (before questions)) (question_in (before questions))) }
+    ensures { result ≡ acceptance (questions_fault n (length questions.now) (question_in questions.now)) }
 {
     for i in 0..questions.len() {
         let q = QuestionNumber(i);

@@ -1,6 +1,5 @@
 // The refusals of term records: 9, 4 and 5.
 ghost use Rattle.std.specs.Prelude.{◌≡◌, length};
-ghost use Rattle.lists.specs.Lent.{before, after};
 ghost use Rattle.lists.specs.Search.{is_some};
 ghost use Rattle.tables.specs.Records.{term_of};
 ghost use Rattle.tables.specs.Refusals.{first_fault};
@@ -44,7 +43,7 @@ fn judge_term(r: TermRecord, t: TermNumber) -> Acceptance
 
 // The first term record that is refused by itself.
 fn first_own_fault(terms: &[TermRow]) -> Acceptance
-    ensures { result ≡ acceptance (first_fault (own_fault_at (term_in (before terms))) 0 (length (before terms))) }
+    ensures { result ≡ acceptance (first_fault (own_fault_at (term_in terms.now)) 0 (length terms.now)) }
 {
     for i in 0..terms.len() {
         let found = judge_term(term_at(terms, TermNumber(i)), TermNumber(i));
@@ -71,7 +70,7 @@ fn atom_bit(r: TermRecord) -> usize
 
 // Sets the bit of a record's atom, if it is of one; tells whether the bit was 0, so that no record before lists the atom.
 fn note_atom(listed: &mut Listed, r: TermRecord) -> bool
-    ensures { Noted (before listed) (after listed) r result }
+    ensures { Noted listed.old listed.new r result }
 {
     if !is_atom(r.kind) {
         return true;
@@ -87,7 +86,7 @@ fn note_atom(listed: &mut Listed, r: TermRecord) -> bool
 // The place of the first term record that lists an atom again; the number of terms where none does. Only a record whose atom's bit is
 // set already is compared with those before it.
 fn first_repeat(terms: &[TermRow]) -> usize
-    ensures { result ≡ place_or (length (before terms)) (first_fault (repeat_fault_at (term_in (before terms))) 0 (length (before terms))) }
+    ensures { result ≡ place_or (length terms.now) (first_fault (repeat_fault_at (term_in terms.now)) 0 (length terms.now)) }
 {
     let mut listed = [0u8; 16384];
     let mut place = terms.len();
@@ -108,7 +107,7 @@ fn first_repeat(terms: &[TermRow]) -> usize
 
 // The first refusal of the term records. At one place 9 and 4 come before 5.
 pub(crate) fn check_terms(terms: &[TermRow]) -> Acceptance
-    ensures { result ≡ acceptance (terms_fault (length (before terms)) (term_in (before terms))) }
+    ensures { result ≡ acceptance (terms_fault (length terms.now) (term_in terms.now)) }
 {
     let repeat = first_repeat(terms);
     let found = first_own_fault(terms);

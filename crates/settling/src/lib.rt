@@ -6,7 +6,6 @@ mod repeats;
 mod seen;
 
 ghost use Rattle.std.specs.Prelude.{◌≡◌, true, ◌+◌, ◌*◌, ◌<◌, ◌≤◌, ◌/◌, ◌%◌, ◌^◌};
-ghost use Rattle.lists.specs.Lent.{before, after};
 ghost use Rattle.pairbits.specs.Bits.{is_set};
 ghost use Rattle.distances.specs.Distances.{Indexed};
 ghost use Rattle.buckets.specs.Buckets.{Chains, key_of};
@@ -73,7 +72,7 @@ fn look(
     requires x_lt_n { (x < n) × (y < n) }
     requires x_bound { (key_of keys.now x < n) × (key_of keys.now y < n) }
     requires y_value { is_set pairs.old (key_of keys.now x * n + key_of keys.now y) ≡ true }
-    ensures { LookedAt (setting n (before points) (before heights) (before keys) (before reads) (before read_heights) (before apart)) x y (before pairs) (after pairs) }
+    ensures { LookedAt (setting n points.now heights.now keys.now reads.now read_heights.now apart.now) x y pairs.old pairs.new }
 {
     let a = reads[x];
     let b = reads[y];
@@ -148,7 +147,7 @@ fn look_from(
     requires x_lt_n { (x < n) × (h < n) }
     requires x_bound { (key_of keys.now x < n) × (is_set pairs.old (key_of keys.now x * n + h) ≡ true) }
     requires chains { Chains n class_slots keys.now lead_first.now lead_next.now }
-    ensures { let S = setting n (before points) (before heights) (before keys) (before reads) (before read_heights) (before apart) in Walked S h (With S x) (before pairs) (after pairs) }
+    ensures { let S = setting n points.now heights.now keys.now reads.now read_heights.now apart.now in Walked S h (With S x) pairs.old pairs.new }
 {
     let mut y = linked(lead_first, h);
     while y < n {
@@ -209,7 +208,7 @@ fn look_homes(
     requires fact { let S = setting n points.now heights.now keys.now reads.now read_heights.now apart.now in Ready S × Kept S pairs.old seen.now }
     requires i_lt_n { (i < n) × ((h < n) × (is_set pairs.old (i * n + h) ≡ true)) }
     requires chains { Chains n class_slots keys.now lead_first.now lead_next.now }
-    ensures { let S = setting n (before points) (before heights) (before keys) (before reads) (before read_heights) (before apart) in Walked S i (WithHome S h) (before pairs) (after pairs) }
+    ensures { let S = setting n points.now heights.now keys.now reads.now read_heights.now apart.now in Walked S i (WithHome S h) pairs.old pairs.new }
 {
     let mut x = linked(lead_first, i);
     while x < n {
@@ -270,7 +269,7 @@ fn look_pair(
     requires chained { Chained n points.now heights.now class_first.now class_next.now slot_first.now slot_next.now × Indexed n points.now heights.now apart.now levels.now from.now order.now starts.now entries.now }
     requires fact { let S = setting n points.now heights.now keys.now reads.now read_heights.now apart.now in Ready S × Kept S pairs.old seen.old }
     requires chains { Chains n class_slots keys.now lead_first.now lead_next.now }
-    ensures { LookedPair (setting n (before points) (before heights) (before keys) (before reads) (before read_heights) (before apart)) pair result (before pairs) (after pairs) (before seen) (after seen) }
+    ensures { LookedPair (setting n points.now heights.now keys.now reads.now read_heights.now apart.now) pair result pairs.old pairs.new seen.old seen.new }
 {
     let i = pair / MOST;
     let h = pair % MOST;
@@ -344,7 +343,7 @@ fn drain(
     requires chained { Chained n points.now heights.now class_first.now class_next.now slot_first.now slot_next.now × Indexed n points.now heights.now apart.now levels.now from.now order.now starts.now entries.now }
     requires fact { let S = setting n points.now heights.now keys.now reads.now read_heights.now apart.now in Ready S × Kept S pairs.old seen.old }
     requires chains { Chains n class_slots keys.now lead_first.now lead_next.now }
-    ensures { LookedPair (setting n (before points) (before heights) (before keys) (before reads) (before read_heights) (before apart)) start result (before pairs) (after pairs) (before seen) (after seen) }
+    ensures { LookedPair (setting n points.now heights.now keys.now reads.now read_heights.now apart.now) start result pairs.old pairs.new seen.old seen.new }
 {
     let mut changed = false;
     let mut pair = start;
@@ -416,7 +415,7 @@ fn sweep_word(
     requires fact { let S = setting n points.now heights.now keys.now reads.now read_heights.now apart.now in Ready S × Kept S pairs.old seen.old }
     requires chains { Chains n class_slots keys.now lead_first.now lead_next.now }
     requires start_bound { start + 64 < 2 ^ 64 }
-    ensures { WordSwept (setting n (before points) (before heights) (before keys) (before reads) (before read_heights) (before apart)) start word result (before pairs) (after pairs) (before seen) (after seen) }
+    ensures { WordSwept (setting n points.now heights.now keys.now reads.now read_heights.now apart.now) start word result pairs.old pairs.new seen.old seen.new }
 {
     let mut changed = false;
     let mut b = next_one(word, 0);
@@ -486,7 +485,7 @@ fn sweep_words(
     requires fact { let S = setting n points.now heights.now keys.now reads.now read_heights.now apart.now in Ready S × Kept S pairs.old seen.old }
     requires chains { Chains n class_slots keys.now lead_first.now lead_next.now }
     requires i_lt_n { (i < n) × FreshIn i fresh.now seen.old }
-    ensures { WordsSwept (setting n (before points) (before heights) (before keys) (before reads) (before read_heights) (before apart)) (before fresh) i result (before pairs) (after pairs) (before seen) (after seen) }
+    ensures { WordsSwept (setting n points.now heights.now keys.now reads.now read_heights.now apart.now) fresh.now i result pairs.old pairs.new seen.old seen.new }
 {
     let mut changed = false;
     for w in 0..i / 64 + 1 {
@@ -556,7 +555,7 @@ fn sweep_row(
     requires fact { let S = setting n points.now heights.now keys.now reads.now read_heights.now apart.now in Ready S × Kept S pairs.old seen.old }
     requires chains { Chains n class_slots keys.now lead_first.now lead_next.now }
     requires i_lt_n { (i < n) × Upto i hosts.now }
-    ensures { RowSwept (setting n (before points) (before heights) (before keys) (before reads) (before read_heights) (before apart)) (before hosts) i result (before pairs) (after pairs) (before seen) (after seen) }
+    ensures { RowSwept (setting n points.now heights.now keys.now reads.now read_heights.now apart.now) hosts.now i result pairs.old pairs.new seen.old seen.new }
 {
     let mut fresh = [0u64; 8];
     rest(hosts, &seen[8 * i..8 * i + 8], &mut fresh);
@@ -618,7 +617,7 @@ fn sweep_rows(
     requires fact { let S = setting n points.now heights.now keys.now reads.now read_heights.now apart.now in Ready S × Kept S pairs.old seen.old }
     requires chains { Chains n class_slots keys.now lead_first.now lead_next.now }
     requires hosts_value { hosts.old ≡ zeros 8 }
-    ensures { Swept (setting n (before points) (before heights) (before keys) (before reads) (before read_heights) (before apart)) result (before pairs) (after pairs) (before seen) (after seen) }
+    ensures { Swept (setting n points.now heights.now keys.now reads.now read_heights.now apart.now) result pairs.old pairs.new seen.old seen.new }
 {
     let mut changed = false;
     for i in 0..n {
@@ -688,7 +687,7 @@ fn sweep(
     requires chained { Chained n points.now heights.now class_first.now class_next.now slot_first.now slot_next.now × Indexed n points.now heights.now apart.now levels.now from.now order.now starts.now entries.now }
     requires fact { let S = setting n points.now heights.now keys.now reads.now read_heights.now apart.now in Ready S × Kept S pairs.old seen.old }
     requires chains { Chains n class_slots keys.now lead_first.now lead_next.now }
-    ensures { Swept (setting n (before points) (before heights) (before keys) (before reads) (before read_heights) (before apart)) result (before pairs) (after pairs) (before seen) (after seen) }
+    ensures { Swept (setting n points.now heights.now keys.now reads.now read_heights.now apart.now) result pairs.old pairs.new seen.old seen.new }
 {
     let mut hosts = [0u64; 8];
     sweep_rows(
@@ -745,7 +744,7 @@ fn sweep_all(
     requires chained { Chained n points.now heights.now class_first.now class_next.now slot_first.now slot_next.now × Indexed n points.now heights.now apart.now levels.now from.now order.now starts.now entries.now }
     requires fact { let S = setting n points.now heights.now keys.now reads.now read_heights.now apart.now in Ready S × Kept S pairs.old seen.old }
     requires chains { Chains n class_slots keys.now lead_first.now lead_next.now }
-    ensures { Settling (setting n (before points) (before heights) (before keys) (before reads) (before read_heights) (before apart)) (before pairs) (after pairs) }
+    ensures { Settling (setting n points.now heights.now keys.now reads.now read_heights.now apart.now) pairs.old pairs.new }
 {
     let mut again = true;
     while again {
@@ -798,7 +797,7 @@ fn settle_indexed(
     requires chained { Chained n points.now heights.now class_first.now class_next.now slot_first.now slot_next.now }
     requires fact { let S = setting n points.now heights.now keys.now reads.now read_heights.now apart.now in Ready S × Kept S pairs.old seen.old }
     requires chains { Chains n class_slots keys.now lead_first.now lead_next.now }
-    ensures { Settling (setting n (before points) (before heights) (before keys) (before reads) (before read_heights) (before apart)) (before pairs) (after pairs) }
+    ensures { Settling (setting n points.now heights.now keys.now reads.now read_heights.now apart.now) pairs.old pairs.new }
 {
     let mut levels = [0u16; CLASSES];
     let mut from = [0u16; CLASSES];
@@ -865,7 +864,7 @@ fn settle_from(
     requires chained { Chained n points.now heights.now class_first.now class_next.now slot_first.now slot_next.now }
     requires fact { let S = setting n points.now heights.now keys.now reads.now read_heights.now apart.now in Ready S × Kept S pairs.old seen.old }
     requires chains { Chains n class_slots keys.now lead_first.now lead_next.now }
-    ensures { Settling (setting n (before points) (before heights) (before keys) (before reads) (before read_heights) (before apart)) (before pairs) (after pairs) }
+    ensures { Settling (setting n points.now heights.now keys.now reads.now read_heights.now apart.now) pairs.old pairs.new }
 {
     if are_many(notes) {
         settle_indexed(
@@ -987,7 +986,7 @@ pub fn settle(
 )
     requires chained { Chained n points.now heights.now class_first.now class_next.now slot_first.now slot_next.now }
     requires column { Column n reads.now read_heights.now × (Led n count homes.now leads.now × (Room n apart.now × (Room n pairs.old × Uniform n points.now heights.now pairs.old))) }
-    ensures { Done (setting n (before points) (before heights) (before homes) (before reads) (before read_heights) (before apart)) count (before leads) (before pairs) (after pairs) }
+    ensures { Done (setting n points.now heights.now homes.now reads.now read_heights.now apart.now) count leads.now pairs.old pairs.new }
 {
     let mut keys = [512u32; MOST];
     let mut lead_first = [0u16; CLASSES];

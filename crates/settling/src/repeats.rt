@@ -1,6 +1,5 @@
 // Dereferences that read places as far apart as two that were looked at give the same pairs.
 ghost use Rattle.std.specs.Prelude.{◌≡◌, true, ◌<◌, ◌≤◌, length};
-ghost use Rattle.lists.specs.Lent.{before};
 ghost use Rattle.tables.specs.Limits.{most};
 ghost use Rattle.points.specs.Places.{Column, top};
 ghost use Rattle.settling.specs.Settle.{Repeated};
@@ -29,7 +28,7 @@ fn is_repeated(
     seen: &[u64],
 ) -> bool
     requires { Column n reads.now read_heights.now × ((n ≤ length keys.now) × ((x < n) × (y < n))) }
-    ensures { result ≡ true → Repeated n (before keys) (before reads) (before read_heights) (before seen) x y }
+    ensures { result ≡ true → Repeated n keys.now reads.now read_heights.now seen.now x y }
 {
     let u = noted / MOST;
     let v = noted % MOST;
@@ -68,7 +67,7 @@ pub(crate) fn was_fired(
     notes: &mut Notes,
 ) -> bool
     requires { Column n reads.now read_heights.now × ((n ≤ length keys.now) × ((x < n) × (y < n))) }
-    ensures { result ≡ true → Repeated n (before keys) (before reads) (before read_heights) (before seen) x y }
+    ensures { result ≡ true → Repeated n keys.now reads.now read_heights.now seen.now x y }
 {
     if are_few(reads[x], reads[y], notes) {
         return false;

@@ -1,6 +1,5 @@
 // Pairs of homes that need no look: what is read at both is in one class, so that inverse dereferencing gives nothing more.
 ghost use Rattle.std.specs.Prelude.{◌≡◌, ◌<◌, ◌≤◌, length, get_or};
-ghost use Rattle.lists.specs.Lent.{before, after};
 ghost use Rattle.buckets.specs.Buckets.{Chains};
 ghost use Rattle.points.specs.Places.{class_slots, Column};
 ghost use Rattle.marking.specs.Marks.{zeros};
@@ -24,7 +23,7 @@ fn owner_of(
     read_heights: &[u64],
 ) -> u32
     requires { Column n reads.now read_heights.now × (Chains n class_slots keys.now lead_first.now lead_next.now × (h < n)) }
-    ensures { Owner n (before keys) (before reads) h result }
+    ensures { Owner n keys.now reads.now h result }
 {
     let first = linked(lead_first, h);
     if n <= first {
@@ -52,7 +51,7 @@ fn fill_owners(
     owners: &mut [u32],
 )
     requires { Column n reads.now read_heights.now × (Chains n class_slots keys.now lead_first.now lead_next.now × (n ≤ length owners.old)) }
-    ensures { Owners n (before keys) (before reads) n (length (before owners)) (after owners) }
+    ensures { Owners n keys.now reads.now n (length owners.old) owners.new }
 {
     for h in 0..n {
         owners[h] = owner_of(n, h, keys, lead_first, lead_next, reads, read_heights);
@@ -63,7 +62,7 @@ fn fill_owners(
 fn store_row(n: usize, a: usize, i: usize, owners: &[u32], own: &[u64], seen: &mut [u64])
     requires own_mask { OwnMask n owners.now a own.now × ((length own.now ≡ 8) × SameOwner n owners.now seen.old) }
     requires i_lt_n { (i < n) × ((n ≤ 512) × ((a < n) × (get_or owners.now i 0 ≡ a))) }
-    ensures { SameOwner n (before owners) (after seen) }
+    ensures { SameOwner n owners.now seen.new }
 {
     for w in 0..8 {
         seen[8 * i + w] = own[w];
@@ -82,7 +81,7 @@ fn store_rows(
 )
     requires own_mask { OwnMask n owners.now a own.now × ((length own.now ≡ 8) × SameOwner n owners.now seen.old) }
     requires n_bound { (n ≤ 512) × ((a < n) × Chains n class_slots owners.now owner_first.now owner_next.now) }
-    ensures { SameOwner n (before owners) (after seen) }
+    ensures { SameOwner n owners.now seen.new }
 {
     let mut i = linked(owner_first, a);
     while i < n {
@@ -101,7 +100,7 @@ fn skip_class(
     seen: &mut [u64],
 )
     requires { SameOwner n owners.now seen.old × ((n ≤ 512) × ((a < n) × Chains n class_slots owners.now owner_first.now owner_next.now)) }
-    ensures { SameOwner n (before owners) (after seen) }
+    ensures { SameOwner n owners.now seen.new }
 {
     let i = linked(owner_first, a);
     if n <= i {
@@ -118,7 +117,7 @@ fn skip_class(
 // The same for all classes.
 fn skip_classes(n: usize, owners: &[u32], owner_first: &[u16], owner_next: &[u16], seen: &mut [u64])
     requires { SameOwner n owners.now seen.old × ((n ≤ 512) × Chains n class_slots owners.now owner_first.now owner_next.now) }
-    ensures { SameOwner n (before owners) (after seen) }
+    ensures { SameOwner n owners.now seen.new }
 {
     for a in 0..n {
         skip_class(n, a, owners, owner_first, owner_next, seen);
@@ -136,7 +135,7 @@ pub(crate) fn fill_seen(
     seen: &mut [u64],
 )
     requires { Column n reads.now read_heights.now × (Chains n class_slots keys.now lead_first.now lead_next.now × (seen.old ≡ zeros 4096)) }
-    ensures { SameReads n (before keys) (before reads) (after seen) }
+    ensures { SameReads n keys.now reads.now seen.new }
 {
     let mut owners = [512u32; MOST];
     let mut owner_first = [0u16; CLASSES];

@@ -1,7 +1,6 @@
 // The solver: tables of rows in, every answer of paper 01 out.
 
 ghost use Rattle.std.specs.Prelude.{◌≡◌};
-ghost use Rattle.lists.specs.Lent.{before, after};
 ghost use Rattle.tables.specs.Sets.{set_of};
 ghost use Rattle.tables.specs.Memory.{memory_of};
 ghost use Rattle.tables.specs.TableFaults.{tables_of};
@@ -32,8 +31,8 @@ fn solve_accepted(
 ) -> Solved
     requires { let M = memory_of representatives.old offsets.old marks.old pairs.old answers.old in
         AcceptedCall (set_of terms.now propositions.now) questions.now M }
-    ensures { let N = memory_of (after representatives) (after offsets) (after marks) (after pairs) (after answers) in
-        Solves blame (set_of (before terms) (before propositions)) (questions_in (before questions)) N result }
+    ensures { let N = memory_of representatives.new offsets.new marks.new pairs.new answers.new in
+        Solves blame (set_of terms.now propositions.now) (questions_in questions.now) N result }
 {
     fill(marks, 1);
     if is_consistent(terms, propositions, marks, representatives, offsets) {
@@ -72,9 +71,9 @@ pub fn solve(
     pairs: &mut [u8],
     answers: &mut [u8],
 ) -> Solved
-    ensures { let T = tables_of n (before terms) m (before propositions) q (before questions) in
-        let M = memory_of (before representatives) (before offsets) (before marks) (before pairs) (before answers) in
-        let N = memory_of (after representatives) (after offsets) (after marks) (after pairs) (after answers) in
+    ensures { let T = tables_of n terms.now m propositions.now q questions.now in
+        let M = memory_of representatives.old offsets.old marks.old pairs.old answers.old in
+        let N = memory_of representatives.new offsets.new marks.new pairs.new answers.new in
         Answered blame T M N result }
 {
     let sizes = check_sizes(n, terms.len(), m, propositions.len(), q, questions.len());
@@ -114,7 +113,7 @@ pub fn solve(
 
 // The verdict on the set that the first n and m rows hold.
 pub fn verdict(n: usize, terms: &[TermRow], m: usize, propositions: &[PropositionRow]) -> Solved
-    ensures { result ≡ verdict_of (unasked n (before terms) m (before propositions)) }
+    ensures { result ≡ verdict_of (unasked n terms.now m propositions.now) }
 {
     let questions = [[0u64; 3]; 1];
     let found = check_tables(n, terms, m, propositions, 0, &questions);

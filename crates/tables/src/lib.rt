@@ -4,7 +4,6 @@
 pub mod atoms;
 
 ghost use Rattle.std.specs.Prelude.{◌≡◌, ◌<◌, length};
-ghost use Rattle.lists.specs.Lent.{before};
 ghost use Rattle.tables.specs.Rows.{term_in, row_of_term, proposition_in, row_of_proposition, question_in, row_of_question};
 
 use offsets::{bits, signed};
@@ -23,7 +22,7 @@ pub type QuestionRow = [u64; 3];
 
 pub fn term_at(terms: &[TermRow], t: TermNumber) -> TermRecord
     requires { t.0 < length terms.now }
-    ensures { result ≡ term_in (before terms) t.0 }
+    ensures { result ≡ term_in terms.now t.0 }
 {
     let k = t.0;
     TermRecord {
@@ -41,7 +40,7 @@ pub fn term_row(r: TermRecord) -> TermRow
 
 pub fn proposition_at(propositions: &[PropositionRow], p: PropositionNumber) -> PropositionRecord
     requires { p.0 < length propositions.now }
-    ensures { result ≡ proposition_in (before propositions) p.0 }
+    ensures { result ≡ proposition_in propositions.now p.0 }
 {
     let k = p.0;
     PropositionRecord {
@@ -60,7 +59,7 @@ pub fn proposition_row(r: PropositionRecord) -> PropositionRow
 
 pub fn question_at(questions: &[QuestionRow], q: QuestionNumber) -> QuestionRecord
     requires { q.0 < length questions.now }
-    ensures { result ≡ question_in (before questions) q.0 }
+    ensures { result ≡ question_in questions.now q.0 }
 {
     let k = q.0;
     QuestionRecord {

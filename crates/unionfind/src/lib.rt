@@ -3,7 +3,6 @@
 // crates `joins`, `congruence`, `consistency` and `solver`.
 
 ghost use Rattle.std.specs.Prelude.{◌≡◌, ◌≢◌, ℕ, ◌+◌, ◌≤◌, ◌<◌, ℤ, ◌+ℤ◌, ◌-ℤ◌, pos, length, get_or};
-ghost use Rattle.lists.specs.Lent.{before, after};
 ghost use Rattle.integers.specs.Within.{Within};
 ghost use Rattle.labels.specs.Spread.{far};
 ghost use Rattle.unionfind.specs.Forest.{Links, Near, flat, Found, Equated, Flattened, Cleared};
@@ -31,7 +30,7 @@ pub enum Joining {
 // Makes each term a root.
 pub fn reset(parents: &mut [u32], offsets: &mut [i64])
     requires { (length offsets.old ≡ length parents.old) × (length parents.old ≤ 512) }
-    ensures { Cleared (before parents) (before offsets) (after parents) (after offsets) }
+    ensures { Cleared parents.old offsets.old parents.new offsets.new }
 {
     for t in 0..parents.len() {
         parents[t] = t as u32;
@@ -43,7 +42,7 @@ pub fn reset(parents: &mut [u32], offsets: &mut [i64])
 fn halve(parents: &mut [u32], offsets: &mut [i64], t: usize) -> usize
     requires links { Links parents.old offsets.old × Near (length parents.old) (flat parents.old offsets.old) }
     requires t_in_bounds { (t < length parents.old) × (get_or parents.old t 0 ≢ t) }
-    ensures { Halved (before parents) (before offsets) (after parents) (after offsets) t result }
+    ensures { Halved parents.old offsets.old parents.new offsets.new t result }
 {
     let up = parents[t] as usize;
     let top = parents[up];
@@ -56,7 +55,7 @@ fn halve(parents: &mut [u32], offsets: &mut [i64], t: usize) -> usize
 pub fn find(parents: &mut [u32], offsets: &mut [i64], t: TermNumber) -> Root
     requires links { Links parents.old offsets.old × Near (length parents.old) (flat parents.old offsets.old) }
     requires t_in_bounds { t.0 < length parents.old }
-    ensures { Found (before parents) (before offsets) (after parents) (after offsets) t.0 result }
+    ensures { Found parents.old offsets.old parents.new offsets.new t.0 result }
 {
     let mut at = t.0;
     let mut offset: i64 = 0;
@@ -84,7 +83,7 @@ pub fn find(parents: &mut [u32], offsets: &mut [i64], t: TermNumber) -> Root
 fn link(parents: &mut [u32], offsets: &mut [i64], from: usize, d: i64, to: usize)
     requires links { Links parents.old offsets.old × ((from < length parents.old) × (to < from)) }
     requires from_value { (get_or parents.old from 0 ≡ from) × (get_or parents.old to 0 ≡ to) }
-    ensures { Linking (before parents) (before offsets) (after parents) (after offsets) from d to }
+    ensures { Linking parents.old offsets.old parents.new offsets.new from d to }
 {
     parents[from] = to as u32;
     offsets[from] = d;
@@ -102,7 +101,7 @@ fn distance(x: i64, z: i64, y: i64) -> i64
 fn join_roots(parents: &mut [u32], offsets: &mut [i64], i: usize, d: i64, j: usize) -> Joining
     requires links { Links parents.old offsets.old × ((i < length parents.old) × (j < length parents.old)) }
     requires i_value { (get_or parents.old i 0 ≡ i) × ((get_or parents.old j 0 ≡ j) × Within (far + far + far) d) }
-    ensures { Equated (before parents) (before offsets) (after parents) (after offsets) i d j result }
+    ensures { Equated parents.old offsets.old parents.new offsets.new i d j result }
 {
     if i == j {
         if is_same(d, 0) {
@@ -122,7 +121,7 @@ fn join_roots(parents: &mut [u32], offsets: &mut [i64], i: usize, d: i64, j: usi
 pub fn join_found(parents: &mut [u32], offsets: &mut [i64], x: Root, z: i64, y: Root) -> Joining
     requires links { Links parents.old offsets.old × ((x.term.0 < length parents.old) × (y.term.0 < length parents.old)) }
     requires term_value { ((get_or parents.old x.term.0 0 ≡ x.term.0) × (get_or parents.old y.term.0 0 ≡ y.term.0)) × (Within far x.offset × (Within far z × Within far y.offset)) }
-    ensures { Equated (before parents) (before offsets) (after parents) (after offsets) x.term.0 (z +ℤ y.offset -ℤ x.offset) y.term.0 result }
+    ensures { Equated parents.old offsets.old parents.new offsets.new x.term.0 (z +ℤ y.offset -ℤ x.offset) y.term.0 result }
 {
     join_roots(
         parents,
@@ -143,7 +142,7 @@ pub fn join(
 ) -> Joining
     requires links { Links parents.old offsets.old × Near (length parents.old) (flat parents.old offsets.old) }
     requires a_in_bounds { (a.0 < length parents.old) × ((b.0 < length parents.old) × Within far z) }
-    ensures { Equated (before parents) (before offsets) (after parents) (after offsets) a.0 z b.0 result }
+    ensures { Equated parents.old offsets.old parents.new offsets.new a.0 z b.0 result }
 {
     let x = find(parents, offsets, a);
     let y = find(parents, offsets, b);
@@ -153,7 +152,7 @@ pub fn join(
 // Hangs each term under its root. In rising order a term's parent hangs under its root already.
 pub fn flatten(parents: &mut [u32], offsets: &mut [i64])
     requires { Links parents.old offsets.old × Near (length parents.old) (flat parents.old offsets.old) }
-    ensures { Flattened (before parents) (before offsets) (after parents) (after offsets) }
+    ensures { Flattened parents.old offsets.old parents.new offsets.new }
 {
     for t in 0..parents.len() {
         if parents[t] as usize == t {

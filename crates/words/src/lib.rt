@@ -1,7 +1,6 @@
 // Words of 64 bits of a byte table, read and set at any bit, and masks: words with a bit for each number. Public for the crates
 // `marking`, `expansion`, `settling` and `placing`.
 ghost use Rattle.std.specs.Prelude.{◌≡◌, true, ◌+◌, ◌*◌, ◌/◌, ◌≤◌, ◌<◌, ◌^◌, length, get_or};
-ghost use Rattle.lists.specs.Lent.{before, after};
 ghost use Rattle.outcome.specs.PairBits.{bit_value};
 ghost use Rattle.pairbits.specs.Bits.{is_set};
 ghost use Rattle.words.specs.Words.{Common, in_mask, Lowest, NextOne, Ored, Put, Rest, Spells, Without};
@@ -18,34 +17,34 @@ fn wide(byte: u8) -> u64
 
 fn one(bytes: &[u8], k: usize) -> u64
     requires { k < length bytes.now }
-    ensures { Spells (before bytes) (8 * k) 8 result }
+    ensures { Spells bytes.now (8 * k) 8 result }
 {
     wide(bytes[k])
 }
 
 fn two(bytes: &[u8], k: usize) -> u64
     requires { k + 2 ≤ length bytes.now }
-    ensures { Spells (before bytes) (8 * k) 16 result }
+    ensures { Spells bytes.now (8 * k) 16 result }
 {
     one(bytes, k + 1) * 0x100 + one(bytes, k)
 }
 
 fn four(bytes: &[u8], k: usize) -> u64
     requires { k + 4 ≤ length bytes.now }
-    ensures { Spells (before bytes) (8 * k) 32 result }
+    ensures { Spells bytes.now (8 * k) 32 result }
 {
     two(bytes, k + 2) * 0x1_0000 + two(bytes, k)
 }
 
 fn eight(bytes: &[u8], k: usize) -> u64
     requires { k + 8 ≤ length bytes.now }
-    ensures { Spells (before bytes) (8 * k) 64 result }
+    ensures { Spells bytes.now (8 * k) 64 result }
 {
     four(bytes, k + 4) * 0x1_0000_0000 + four(bytes, k)
 }
 
 fn bit_at(bytes: &[u8], i: usize) -> u64
-    ensures { result ≡ bit_value (is_set (before bytes) i) }
+    ensures { result ≡ bit_value (is_set bytes.now i) }
 {
     if bytes.len() <= i / 8 {
         return 0;
@@ -56,7 +55,7 @@ fn bit_at(bytes: &[u8], i: usize) -> u64
 // The word from bit `at` on, bit by bit: for the end of a table.
 fn last_word(bytes: &[u8], at: usize) -> u64
     requires { at + 64 < 2 ^ 64 }
-    ensures { Spells (before bytes) at 64 result }
+    ensures { Spells bytes.now at 64 result }
 {
     let mut word = 0;
     for b in 0..64 {
@@ -68,7 +67,7 @@ fn last_word(bytes: &[u8], at: usize) -> u64
 // The word from bit `at` on. Bits past the table are 0.
 pub fn word_at(bytes: &[u8], at: usize) -> u64
     requires { at + 64 < 2 ^ 64 }
-    ensures { Spells (before bytes) at 64 result }
+    ensures { Spells bytes.now at 64 result }
 {
     let k = at / 8;
     let s = at % 8;
@@ -84,14 +83,14 @@ pub fn word_at(bytes: &[u8], at: usize) -> u64
 
 fn or_byte(bytes: &mut [u8], k: usize, x: u64)
     requires { k < length bytes.old }
-    ensures { Ored (before bytes) (8 * k) 8 x (after bytes) }
+    ensures { Ored bytes.old (8 * k) 8 x bytes.new }
 {
     bytes[k] = bytes[k] | ((x % 0x100) as u8);
 }
 
 fn or_two(bytes: &mut [u8], k: usize, x: u64)
     requires { k + 2 ≤ length bytes.old }
-    ensures { Ored (before bytes) (8 * k) 16 x (after bytes) }
+    ensures { Ored bytes.old (8 * k) 16 x bytes.new }
 {
     or_byte(bytes, k, x);
     or_byte(bytes, k + 1, x >> 8);
@@ -99,7 +98,7 @@ fn or_two(bytes: &mut [u8], k: usize, x: u64)
 
 fn or_four(bytes: &mut [u8], k: usize, x: u64)
     requires { k + 4 ≤ length bytes.old }
-    ensures { Ored (before bytes) (8 * k) 32 x (after bytes) }
+    ensures { Ored bytes.old (8 * k) 32 x bytes.new }
 {
     or_two(bytes, k, x);
     or_two(bytes, k + 2, x >> 16);
@@ -107,7 +106,7 @@ fn or_four(bytes: &mut [u8], k: usize, x: u64)
 
 fn or_eight(bytes: &mut [u8], k: usize, x: u64)
     requires { k + 8 ≤ length bytes.old }
-    ensures { Ored (before bytes) (8 * k) 64 x (after bytes) }
+    ensures { Ored bytes.old (8 * k) 64 x bytes.new }
 {
     or_four(bytes, k, x);
     or_four(bytes, k + 4, x >> 32);
@@ -116,7 +115,7 @@ fn or_eight(bytes: &mut [u8], k: usize, x: u64)
 // Sets bit `at` + b, if bit b of x is 1 and the table has it.
 fn or_bit(bytes: &mut [u8], at: usize, b: usize, x: u64)
     requires { (at + 64 < 2 ^ 64) × (b < 64) }
-    ensures { Ored (before bytes) (at + b) 1 (x / 2 ^ b) (after bytes) }
+    ensures { Ored bytes.old (at + b) 1 (x / 2 ^ b) bytes.new }
 {
     if (x >> b) % 2 == 0 {
         return;
@@ -130,7 +129,7 @@ fn or_bit(bytes: &mut [u8], at: usize, b: usize, x: u64)
 // Sets the bits of a word from bit `at` on, bit by bit: for the end of a table.
 fn or_last(bytes: &mut [u8], at: usize, x: u64)
     requires { at + 64 < 2 ^ 64 }
-    ensures { Ored (before bytes) at 64 x (after bytes) }
+    ensures { Ored bytes.old at 64 x bytes.new }
 {
     for b in 0..64 {
         or_bit(bytes, at, b, x);
@@ -140,7 +139,7 @@ fn or_last(bytes: &mut [u8], at: usize, x: u64)
 // Sets the bits of a word from bit `at` on. Those past the table are dropped.
 pub fn or_word(bytes: &mut [u8], at: usize, x: u64)
     requires { at + 64 < 2 ^ 64 }
-    ensures { Ored (before bytes) at 64 x (after bytes) }
+    ensures { Ored bytes.old at 64 x bytes.new }
 {
     let k = at / 8;
     let s = at % 8;
@@ -167,7 +166,7 @@ fn word(x: u64) -> u64
 
 // Word w of a mask, 0 past its end.
 fn mask_word(mask: &[u64], w: usize) -> u64
-    ensures { (result ≡ get_or (before mask) w 0) × (result < 2 ^ 64) }
+    ensures { (result ≡ get_or mask.now w 0) × (result < 2 ^ 64) }
 {
     if w < mask.len() {
         return word(mask[w]);
@@ -178,7 +177,7 @@ fn mask_word(mask: &[u64], w: usize) -> u64
 // Puts j into a mask.
 pub fn put(mask: &mut [u64], j: usize)
     requires { j / 64 < length mask.old }
-    ensures { Put (before mask) j (after mask) }
+    ensures { Put mask.old j mask.new }
 {
     let w = j / 64;
     mask[w] = mask[w] | (1u64 << (j % 64));
@@ -186,14 +185,14 @@ pub fn put(mask: &mut [u64], j: usize)
 
 // Whether j is in a mask.
 pub fn contains(mask: &[u64], j: usize) -> bool
-    ensures { result ≡ in_mask (before mask) j }
+    ensures { result ≡ in_mask mask.now j }
 {
     (mask_word(mask, j / 64) >> (j % 64)) % 2 == 1
 }
 
 // Word w of a mask, without number j.
 pub fn word_without(mask: &[u64], w: usize, j: usize) -> u64
-    ensures { Without (before mask) w j result }
+    ensures { Without mask.now w j result }
 {
     let word = mask_word(mask, w);
     if j / 64 != w {
@@ -252,7 +251,7 @@ pub fn next_one(word: u64, from: usize) -> usize
 // The bits of the row and the mask from number v on, up to the end of the mask's word.
 pub fn common(start: usize, table: &[u8], mask: &[u64], v: usize) -> u64
     requires { start + v + 64 < 2 ^ 64 }
-    ensures { Common start (before table) (before mask) v result }
+    ensures { Common start table.now mask.now v result }
 {
     word_at(table, start + v) & (mask_word(mask, v / 64) >> (v % 64))
 }
@@ -260,7 +259,7 @@ pub fn common(start: usize, table: &[u8], mask: &[u64], v: usize) -> u64
 // The numbers of one mask that are not in another.
 pub fn rest(x: &[u64], y: &[u64], rest: &mut [u64])
     requires { length rest.old ≡ 8 }
-    ensures { Rest (before x) (before y) 8 (after rest) }
+    ensures { Rest x.now y.now 8 rest.new }
 {
     for w in 0..8 {
         let word = mask_word(x, w);

@@ -1,7 +1,6 @@
 // Frames as lines of hexadecimal, written to a buffer from a place on; each function answers the place after what it wrote.
 // Public for the crate `driver`, which knows that the frames fit.
 ghost use Rattle.std.specs.Prelude.{◌≡◌, ◌+◌, ◌/◌, ◌%◌, ◌^◌, ◌≤◌, ◌<◌, length};
-ghost use Rattle.lists.specs.Lent.{before, after};
 ghost use Rattle.types.specs.declared.Verdict.TheVariants.{Satisfiable, Contradiction};
 ghost use Rattle.text.specs.Output.{line_of, verdict_frame, label_frame, label_frames, blame_if, blame_frames, answer_frame, cell_frames, refusal_frame};
 ghost use Rattle.writer.specs.Frames.{cell_frame, set_frames};
@@ -22,7 +21,7 @@ fn byte_of(v: u64, k: u32) -> u8
 // Writes a frame's bytes as a line.
 fn put_line(out: &mut [u8], at: usize, frame: &[u8]) -> usize
     requires { at + length (line_of frame.now) ≤ length out.old }
-    ensures { Appended (before out) at (line_of (before frame)) (after out) result }
+    ensures { Appended out.old at (line_of frame.now) out.new result }
 {
     let mut next = at;
     for k in 0..frame.len() {
@@ -37,7 +36,7 @@ fn put_line(out: &mut [u8], at: usize, frame: &[u8]) -> usize
 
 fn put_satisfiable(out: &mut [u8], at: usize) -> usize
     requires { at + length (verdict_frame Satisfiable) ≤ length out.old }
-    ensures { Appended (before out) at (verdict_frame Satisfiable) (after out) result }
+    ensures { Appended out.old at (verdict_frame Satisfiable) out.new result }
 {
     let frame = [0xA0, 0];
     put_line(out, at, &frame)
@@ -45,7 +44,7 @@ fn put_satisfiable(out: &mut [u8], at: usize) -> usize
 
 fn put_contradiction(out: &mut [u8], at: usize) -> usize
     requires { at + length (verdict_frame Contradiction) ≤ length out.old }
-    ensures { Appended (before out) at (verdict_frame Contradiction) (after out) result }
+    ensures { Appended out.old at (verdict_frame Contradiction) out.new result }
 {
     let frame = [0xA0, 1];
     put_line(out, at, &frame)
@@ -54,7 +53,7 @@ fn put_contradiction(out: &mut [u8], at: usize) -> usize
 // A term's representative and offset.
 fn put_label(out: &mut [u8], at: usize, term: TermNumber, representative: u32, offset: i64) -> usize
     requires { at + length (label_frame term.0 representative offset) ≤ length out.old }
-    ensures { Appended (before out) at (label_frame term.0 representative offset) (after out) result }
+    ensures { Appended out.old at (label_frame term.0 representative offset) out.new result }
 {
     let t = term.0 as u64;
     let r = representative as u64;
@@ -81,7 +80,7 @@ fn put_label(out: &mut [u8], at: usize, term: TermNumber, representative: u32, o
 fn put_labels(out: &mut [u8], at: usize, representatives: &[u32], offsets: &[i64]) -> usize
     requires representatives_len { length representatives.now ≡ length offsets.now }
     requires offsets_in_bounds { at + length (label_frames 0 representatives.now offsets.now) ≤ length out.old }
-    ensures { Appended (before out) at (label_frames 0 (before representatives) (before offsets)) (after out) result }
+    ensures { Appended out.old at (label_frames 0 representatives.now offsets.now) out.new result }
 {
     let mut next = at;
     for t in 0..representatives.len() {
@@ -93,7 +92,7 @@ fn put_labels(out: &mut [u8], at: usize, representatives: &[u32], offsets: &[i64
 // A proposition, if it is marked.
 fn put_blamed(out: &mut [u8], at: usize, proposition: PropositionNumber, mark: u8) -> usize
     requires { at + length (blame_if proposition.0 mark) ≤ length out.old }
-    ensures { Appended (before out) at (blame_if proposition.0 mark) (after out) result }
+    ensures { Appended out.old at (blame_if proposition.0 mark) out.new result }
 {
     if mark == 0 {
         return at;
@@ -106,7 +105,7 @@ fn put_blamed(out: &mut [u8], at: usize, proposition: PropositionNumber, mark: u
 // The answer to a question.
 fn put_answer(out: &mut [u8], at: usize, question: QuestionNumber, answer: u8) -> usize
     requires { at + length (answer_frame question.0 answer) ≤ length out.old }
-    ensures { Appended (before out) at (answer_frame question.0 answer) (after out) result }
+    ensures { Appended out.old at (answer_frame question.0 answer) out.new result }
 {
     let q = question.0 as u64;
     let frame = [0xA3, byte_of(q, 1), byte_of(q, 0), answer];
@@ -116,7 +115,7 @@ fn put_answer(out: &mut [u8], at: usize, question: QuestionNumber, answer: u8) -
 // The mark of a proposition, or the answer to a question.
 fn put_cell(out: &mut [u8], at: usize, blamed: bool, number: usize, cell: u8) -> usize
     requires { at + length (cell_frame blamed number cell) ≤ length out.old }
-    ensures { Appended (before out) at (cell_frame blamed number cell) (after out) result }
+    ensures { Appended out.old at (cell_frame blamed number cell) out.new result }
 {
     if blamed {
         put_blamed(out, at, PropositionNumber(number), cell)
@@ -128,7 +127,7 @@ fn put_cell(out: &mut [u8], at: usize, blamed: bool, number: usize, cell: u8) ->
 // All marks, or answers.
 fn put_cells(out: &mut [u8], at: usize, blamed: bool, cells: &[u8]) -> usize
     requires { at + length (cell_frames (cell_frame blamed) 0 cells.now) ≤ length out.old }
-    ensures { Appended (before out) at (cell_frames (cell_frame blamed) 0 (before cells)) (after out) result }
+    ensures { Appended out.old at (cell_frames (cell_frame blamed) 0 cells.now) out.new result }
 {
     let mut next = at;
     for k in 0..cells.len() {
@@ -140,7 +139,7 @@ fn put_cells(out: &mut [u8], at: usize, blamed: bool, cells: &[u8]) -> usize
 // The only frame of a refusal.
 pub fn put_refusal(out: &mut [u8], fault: Fault) -> usize
     requires { length (refusal_frame fault) ≤ length out.old }
-    ensures { Appended (before out) 0 (refusal_frame fault) (after out) result }
+    ensures { Appended out.old 0 (refusal_frame fault) out.new result }
 {
     let refusal = fault.refusal;
     let p = fault.place as u64;
@@ -158,8 +157,8 @@ pub fn put_satisfiable_set(
     requires representatives_len { length representatives.now ≡ length offsets.now }
     requires answers_in_bounds { let labels = label_frames 0 representatives.now offsets.now in
         length (set_frames Satisfiable labels answers.now) ≤ length out.old }
-    ensures { let labels = label_frames 0 (before representatives) (before offsets) in
-        Appended (before out) 0 (set_frames Satisfiable labels (before answers)) (after out) result }
+    ensures { let labels = label_frames 0 representatives.now offsets.now in
+        Appended out.old 0 (set_frames Satisfiable labels answers.now) out.new result }
 {
     let labels = put_satisfiable(out, 0);
     let questions = put_labels(out, labels, representatives, offsets);
@@ -169,7 +168,7 @@ pub fn put_satisfiable_set(
 // The frames of a contradictory set: its verdict, the propositions that are marked, and its questions.
 pub fn put_contradictory_set(out: &mut [u8], marks: &[u8], answers: &[u8]) -> usize
     requires { length (set_frames Contradiction (blame_frames marks.now) answers.now) ≤ length out.old }
-    ensures { Appended (before out) 0 (set_frames Contradiction (blame_frames (before marks)) (before answers)) (after out) result }
+    ensures { Appended out.old 0 (set_frames Contradiction (blame_frames marks.now) answers.now) out.new result }
 {
     let blame = put_contradiction(out, 0);
     let questions = put_cells(out, blame, true, marks);

@@ -7,14 +7,14 @@ use Rattle.blame.specs.Blaming.{Turn, tried_kept, trying_start, trying_dropped, 
 use Rattle.blame.proofs.blame_marks.Statement.{statement}
 use Rattle.blame.proofs.blame_marks.Tie as tie
 
-abbrev invariant-loop : tie.invariant-loop
+abbrev invariant-loop : tie.invariant-loop-k
 invariant-loop terms propositions marks₀ representatives₀ offsets₀ k₀ run₀ marks representatives offsets k run =
     Turn (set_of terms propositions) marks representatives offsets k run
 
-abbrev decreases-loop : tie.decreases-loop
+abbrev decreases-loop : tie.decreases-loop-k
 decreases-loop terms propositions marks₀ representatives₀ offsets₀ k₀ run₀ marks representatives offsets k run = k
 
-loop-holds : tie.Need-loop-init invariant-loop decreases-loop
+loop-holds : tie.Need-loop-k-init invariant-loop decreases-loop
 loop-holds c =
     let s = c.before.before in
     let l = s.requires.0 in
@@ -26,65 +26,65 @@ loop-holds c =
       run_most = omega arith;
     }
 
-drop-run-requires : tie.Need-drop-run-requires invariant-loop decreases-loop
+drop-run-requires : tie.Need-drop_run-requires invariant-loop decreases-loop
 drop-run-requires c κs =
     let a = c.before.before.before in
     let l = a.before.before in
     let s = l.before.before.before in
-    let i = l.loop.invariant in (
+    let i = l.loop-k.invariant in (
       record { good = s.requires.0.good; marks_count = i.trying.count; reps_count = i.reps_count; offs_count = i.offs_count },
-      (omega (arith, a.run-start.ensures), i.trying.within, i.trying.ones),
+      (omega (arith, a.run_start-low.ensures), i.trying.within, i.trying.ones),
     )
 
 -- the next run's length fits
-mul-run : tie.Need-overflow-mul-run invariant-loop decreases-loop
+mul-run : tie.Need-overflow_mul-run invariant-loop decreases-loop
 mul-run c =
     let a = c.before.before.before.before.before.before.before.before.before.before in
-    omega (arith, a.run-start.ensures, a.before.before.loop.invariant.run_most)
+    omega (arith, a.run_start-low.ensures, a.before.before.loop-k.invariant.run_most)
 
-loop-less : tie.Need-loop-smaller invariant-loop decreases-loop
+loop-less : tie.Need-loop-k-smaller-then-drop_run invariant-loop decreases-loop
 loop-less c =
     let a = c.before.before.before.before.before.before.before.before.before.before in
-    omega (arith, a.run-start.ensures, a.before.loop-test.true, a.before.before.loop.invariant.run_least)
+    omega (arith, a.run_start-low.ensures, a.before.loop-k-test.true, a.before.before.loop-k.invariant.run_least)
 
-loop-again : tie.Need-loop-preserved invariant-loop decreases-loop
+loop-again : tie.Need-loop-k-preserved-then-drop_run invariant-loop decreases-loop
 loop-again c =
     let t = c.before.before.before.before.before.before in
     let a = t.before.before.before.before in
-    let h = a.before.loop-test.true in
+    let h = a.before.loop-k-test.true in
     let l = a.before.before in
     let s = l.before.before.before in
-    let i = l.loop.invariant in
-    let e = sym t.drop_run.ensures.0 ∙ c.if1.true in
+    let i = l.loop-k.invariant in
+    let e = sym t.drop_run.ensures.0 ∙ c.if-drop_run.true in
     record {
-      trying = rw t.drop_run.ensures.1 (trying_dropped _ s.requires.0.good i.trying (omega (arith, a.run-start.ensures)) e);
+      trying = rw t.drop_run.ensures.1 (trying_dropped _ s.requires.0.good i.trying (omega (arith, a.run_start-low.ensures)) e);
       reps_count = t.drop_run.auto.1.1.1.0 ∙ i.reps_count;
       offs_count = t.drop_run.auto.1.1.1.1.0 ∙ i.offs_count;
-      run_least = omega (arith, a.run-start.ensures, h, i.run_least);
-      run_most = omega (arith, a.run-start.ensures, h, i.run_most);
+      run_least = omega (arith, a.run_start-low.ensures, h, i.run_least);
+      run_most = omega (arith, a.run_start-low.ensures, h, i.run_most);
     }
 
-find-blamed-requires : tie.Need-find-blamed-requires invariant-loop decreases-loop
+find-blamed-requires : tie.Need-find_blamed-blamed-requires invariant-loop decreases-loop
 find-blamed-requires c κs =
     let f = c.before.before.before in
     let t = f.before.before.before.before.before.before in
     let a = t.before.before.before.before in
-    let h = a.before.loop-test.true in
+    let h = a.before.loop-k-test.true in
     let l = a.before.before in
     let s = l.before.before.before in
-    let i = l.loop.invariant in
-    let stays = sym t.drop_run.ensures.0 ∙ f.if1.false in
-    let same = t.drop_run.ensures.1 ∙ tried_kept _ l.loop.marks a.run-start.result l.loop.k stays in (
+    let i = l.loop-k.invariant in
+    let stays = sym t.drop_run.ensures.0 ∙ f.if-drop_run.false in
+    let same = t.drop_run.ensures.1 ∙ tried_kept _ l.loop-k.marks a.run_start-low.result l.loop-k.k stays in (
       record {
         good = s.requires.0.good;
         marks_count = t.drop_run.auto.1.1.0 ∙ i.trying.count;
         reps_count = t.drop_run.auto.1.1.1.0 ∙ i.reps_count;
         offs_count = t.drop_run.auto.1.1.1.1.0 ∙ i.offs_count;
       },
-      ((omega (arith, a.run-start.ensures, h, i.run_least), i.trying.within, rw same i.trying.ones), rw same stays),
+      ((omega (arith, a.run_start-low.ensures, h, i.run_least), i.trying.within, rw same i.trying.ones), rw same stays),
     )
 
-loop-again-2 : tie.Need-loop-preserved-2 invariant-loop decreases-loop
+loop-again-2 : tie.Need-loop-k-preserved invariant-loop decreases-loop
 loop-again-2 c =
     let b = c.before.before.before.before.before in
     let f = b.before.before.before.before in
@@ -92,14 +92,14 @@ loop-again-2 c =
     let a = t.before.before.before.before in
     let l = a.before.before in
     let s = l.before.before.before in
-    let i = l.loop.invariant in
-    let stays = sym t.drop_run.ensures.0 ∙ f.if1.false in
-    let same = t.drop_run.ensures.1 ∙ tried_kept _ l.loop.marks a.run-start.result l.loop.k stays in
-    let e = b.find-blamed.ensures in
+    let i = l.loop-k.invariant in
+    let stays = sym t.drop_run.ensures.0 ∙ f.if-drop_run.false in
+    let same = t.drop_run.ensures.1 ∙ tried_kept _ l.loop-k.marks a.run_start-low.result l.loop-k.k stays in
+    let e = b.find_blamed-blamed.ensures in
     record {
       trying = trying_blamed _ s.requires.0.good (rw same i.trying) e;
-      reps_count = b.find-blamed.auto.1.1.1.0 ∙ (t.drop_run.auto.1.1.1.0 ∙ i.reps_count);
-      offs_count = b.find-blamed.auto.1.1.1.1.0 ∙ (t.drop_run.auto.1.1.1.1.0 ∙ i.offs_count);
+      reps_count = b.find_blamed-blamed.auto.1.1.1.0 ∙ (t.drop_run.auto.1.1.1.0 ∙ i.reps_count);
+      offs_count = b.find_blamed-blamed.auto.1.1.1.1.0 ∙ (t.drop_run.auto.1.1.1.1.0 ∙ i.offs_count);
       run_least = omega arith;
       run_most = omega (arith, e.nonempty, e.below, i.trying.within);
     }
@@ -107,11 +107,11 @@ loop-again-2 c =
 returns : tie.Need-returns invariant-loop decreases-loop
 returns c =
     let l = c.before in
-    let e : l.loop.k ≡ 0 = omega (arith, c.loop-test.false) in
-    trying_end _ l.loop.marks (rw e at l.loop.invariant.trying)
+    let e : l.loop-k.k ≡ 0 = omega (arith, c.loop-k-test.false) in
+    trying_end _ l.loop-k.marks (rw e at l.loop-k.invariant.trying)
 
-pub blame-marks-spec : {M : Type 1} → statement M
-blame-marks-spec =
+pub blame_marks_spec : {M : Type 1} → statement M
+blame_marks_spec =
     tie.close
     (tie.spec
     invariant-loop
@@ -119,14 +119,14 @@ blame-marks-spec =
     loop-holds
     (λ c κs. search rules)
     drop-run-requires
-    (λ c. omega (arith, c.before.before.before.before.before.before.before.before.before.before.run-start.ensures))
+    (λ c. omega (arith, c.before.before.before.before.before.before.before.before.before.before.run_start-low.ensures))
     mul-run
     loop-less
     loop-again
     find-blamed-requires
-    (λ c. let e = c.before.before.before.before.before.find-blamed.ensures in omega (arith, e.nonempty, e.below))
+    (λ c. let e = c.before.before.before.before.before.find_blamed-blamed.ensures in omega (arith, e.nonempty, e.below))
     loop-again-2
-    (λ c. omega (arith, c.before.loop.invariant.trying.count))
-    (λ c. omega (arith, c.before.loop.invariant.reps_count))
-    (λ c. omega (arith, c.before.loop.invariant.offs_count))
+    (λ c. omega (arith, c.before.loop-k.invariant.trying.count))
+    (λ c. omega (arith, c.before.loop-k.invariant.reps_count))
+    (λ c. omega (arith, c.before.loop-k.invariant.offs_count))
     returns)

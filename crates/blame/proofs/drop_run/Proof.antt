@@ -6,35 +6,35 @@ use Rattle.blame.specs.Blaming.{run_dropped, run_kept}
 use Rattle.blame.proofs.drop_run.Statement.{statement}
 use Rattle.blame.proofs.drop_run.Tie as tie
 
-is-consistent-requires : tie.Need-is-consistent-requires
+is-consistent-requires : tie.Need-is_consistent-requires
 is-consistent-requires c κs =
     let w = c.before.before.before.before.before in
     let l = w.before.before.before.before.requires.0 in
     ((l.good, omega (arith, w.write-run.auto, l.marks_count)), (l.reps_count, l.offs_count))
 
-returns : tie.Need-returns
+returns : tie.Need-returns-then-not-is_consistent
 returns c =
     let d = c.before.before.before.before in
     let w = d.before.before.before.before.before.before in
     let s = w.before.before.before.before in
     run_dropped _ s.args.marks.now s.args.from s.args.to s.requires.0.good w.write-run.ensures
-    (rw (not-true d.is-consistent.result c.if1.true) at d.is-consistent.ensures)
+    (rw (not-true d.is_consistent.result c.if-not-is_consistent.true) at d.is_consistent.ensures)
 
-returns-2 : tie.Need-returns-2
+returns-2 : tie.Need-returns
 returns-2 c =
     let a = c.before.before.before.before in
     let d = a.before.before.before.before in
     let w = d.before.before.before.before.before.before in
     let s = w.before.before.before.before in
     run_kept _ s.args.marks.now s.args.from s.args.to s.requires.0.good w.write-run.ensures
-    (rw (not-false d.is-consistent.result a.if1.false) at d.is-consistent.ensures)
+    (rw (not-false d.is_consistent.result a.if-not-is_consistent.false) at d.is_consistent.ensures)
     s.requires.1.0
     (omega (arith, s.requires.0.marks_count, s.requires.1.1))
     s.requires.1.2
-    c.before.before.write-run2.ensures
+    c.before.before.write_run-2.ensures
 
-pub drop-run-spec : {M : Type 1} → statement M
-drop-run-spec =
+pub drop_run_spec : {M : Type 1} → statement M
+drop_run_spec =
     tie.close
     (tie.spec
     (λ c κs. search rules)

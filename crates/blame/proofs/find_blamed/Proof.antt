@@ -8,14 +8,14 @@ use Rattle.blame.specs.Blaming.{Halving, halving_start, blamed_length, blamed_on
 use Rattle.blame.proofs.find_blamed.Statement.{statement}
 use Rattle.blame.proofs.find_blamed.Tie as tie
 
-abbrev invariant-loop : tie.invariant-loop
+abbrev invariant-loop : tie.invariant-loop-high
 invariant-loop terms propositions marks₀ representatives₀ offsets₀ from to low₀ high₀ marks representatives offsets low high =
     Halving (set_of terms propositions) marks₀ to marks representatives offsets low high
 
-abbrev decreases-loop : tie.decreases-loop
+abbrev decreases-loop : tie.decreases-loop-high
 decreases-loop terms propositions marks₀ representatives₀ offsets₀ from to low₀ high₀ marks representatives offsets low high = high - low
 
-loop-holds : tie.Need-loop-init invariant-loop decreases-loop
+loop-holds : tie.Need-loop-high-init invariant-loop decreases-loop
 loop-holds c =
     let s = c.before.before in
     let l = s.requires.0 in
@@ -26,12 +26,12 @@ loop-holds c =
       offs_count = l.offs_count;
     }
 
-drop-run-requires : tie.Need-drop-run-requires invariant-loop decreases-loop
+drop-run-requires : tie.Need-drop_run-requires invariant-loop decreases-loop
 drop-run-requires c κs =
     let l = c.before.before.before.before in
     let s = l.before.before.before in
     let p = s.requires.1.0 in
-    let i = l.loop.invariant in
+    let i = l.loop-high.invariant in
     let w : s.args.to ≤ length s.args.marks.now = omega (arith, s.requires.0.marks_count, p.1) in
     let b = i.blamed in
     let n = blamed_length w b in
@@ -40,67 +40,67 @@ drop-run-requires c κs =
       (omega (arith, b.nonempty), omega (arith, b.below, p.1), A),
     )
 
-loop-again : tie.Need-loop-preserved invariant-loop decreases-loop
+loop-again : tie.Need-loop-high-preserved-then-drop_run invariant-loop decreases-loop
 loop-again c =
     let t = c.before.before.before.before.before.before in
     let l = t.before.before.before.before.before in
-    let h = t.before.before.before.before.loop-test.true in
+    let h = t.before.before.before.before.loop-high-test.true in
     let s = l.before.before.before in
-    let i = l.loop.invariant in
+    let i = l.loop-high.invariant in
     let w : s.args.to ≤ length s.args.marks.now = omega (arith, s.requires.0.marks_count, s.requires.1.0.1) in
-    let mid = l.loop.low + (l.loop.high - l.loop.low) / 2 in
-    let e = sym t.drop_run.ensures.0 ∙ c.if1.true in
+    let mid = l.loop-high.low + (l.loop-high.high - l.loop-high.low) / 2 in
+    let e = sym t.drop_run.ensures.0 ∙ c.if-drop_run.true in
     record {
       blamed = rw t.drop_run.ensures.1 (upper_dropped w i.blamed mid (omega (arith, h)) (omega (arith, h)) e);
       reps_count = t.drop_run.auto.1.1.1.0 ∙ i.reps_count;
       offs_count = t.drop_run.auto.1.1.1.1.0 ∙ i.offs_count;
     }
 
-loop-again-2 : tie.Need-loop-preserved-2 invariant-loop decreases-loop
+loop-again-2 : tie.Need-loop-high-preserved invariant-loop decreases-loop
 loop-again-2 c =
     let t = c.before.before.before.before.before.before in
     let l = t.before.before.before.before.before in
-    let h = t.before.before.before.before.loop-test.true in
+    let h = t.before.before.before.before.loop-high-test.true in
     let s = l.before.before.before in
-    let i = l.loop.invariant in
+    let i = l.loop-high.invariant in
     let w : s.args.to ≤ length s.args.marks.now = omega (arith, s.requires.0.marks_count, s.requires.1.0.1) in
-    let mid = l.loop.low + (l.loop.high - l.loop.low) / 2 in
-    let e = sym t.drop_run.ensures.0 ∙ c.if1.false in
+    let mid = l.loop-high.low + (l.loop-high.high - l.loop-high.low) / 2 in
+    let e = sym t.drop_run.ensures.0 ∙ c.if-drop_run.false in
     record {
       blamed = rw t.drop_run.ensures.1 (upper_kept w i.blamed mid (omega (arith, h)) (omega (arith, h)) e);
       reps_count = t.drop_run.auto.1.1.1.0 ∙ i.reps_count;
       offs_count = t.drop_run.auto.1.1.1.1.0 ∙ i.offs_count;
     }
 
-same_length : tie.Need-same-length invariant-loop decreases-loop
+same_length : tie.Need-shape_of-marks invariant-loop decreases-loop
 same_length c =
     let l = c.before in
     let s = l.before.before.before in
     let w : s.args.to ≤ length s.args.marks.now = omega (arith, s.requires.0.marks_count, s.requires.1.0.1) in
-    blamed_length w l.loop.invariant.blamed
+    blamed_length w l.loop-high.invariant.blamed
 
 returns : tie.Need-returns invariant-loop decreases-loop
 returns c =
     let l = c.before in
-    let e : l.loop.high ≡ suc l.loop.low = omega (arith, c.loop-test.false, l.loop.invariant.blamed.nonempty) in
-    rw e at l.loop.invariant.blamed
+    let e : l.loop-high.high ≡ suc l.loop-high.low = omega (arith, c.loop-high-test.false, l.loop-high.invariant.blamed.nonempty) in
+    rw e at l.loop-high.invariant.blamed
 
-pub find-blamed-spec : {M : Type 1} → statement M
-find-blamed-spec =
+pub find_blamed_spec : {M : Type 1} → statement M
+find_blamed_spec =
     tie.close
     (tie.spec
     invariant-loop
     decreases-loop
     loop-holds
-    (λ c. omega (arith, c.loop.invariant.blamed.nonempty))
-    (λ c. omega (arith, c.before.loop.invariant.blamed.nonempty))
+    (λ c. omega (arith, c.loop-high.invariant.blamed.nonempty))
+    (λ c. omega (arith, c.before.loop-high.invariant.blamed.nonempty))
     (λ c. omega arith)
     drop-run-requires
-    (λ c. omega (arith, c.before.before.before.before.before.before.before.before.before.before.loop-test.true))
+    (λ c. omega (arith, c.before.before.before.before.before.before.before.before.before.before.loop-high-test.true))
     loop-again
-    (λ c. omega (arith, c.before.before.before.before.before.before.before.before.before.before.loop-test.true))
+    (λ c. omega (arith, c.before.before.before.before.before.before.before.before.before.before.loop-high-test.true))
     loop-again-2
     same_length
-    (λ c. omega (arith, c.before.loop.invariant.reps_count))
-    (λ c. omega (arith, c.before.loop.invariant.offs_count))
+    (λ c. omega (arith, c.before.loop-high.invariant.reps_count))
+    (λ c. omega (arith, c.before.loop-high.invariant.offs_count))
     returns)

@@ -9,8 +9,8 @@ returns c =
     let s = c.before.before.before.before.before in
     run_lent s.args.marks.now s.args.from s.args.to s.args.value s.requires.0 s.requires.1 c.before.before.fill.ensures
 
-pub write-run-spec : {M : Type 1} → statement M
-write-run-spec =
+pub write_run_spec : {M : Type 1} → statement M
+write_run_spec =
     tie.close
     (tie.spec
     (λ c. search rules)

@@ -5,11 +5,11 @@ use Rattle.bucketmonk_c.proofs.bucketmonk_read.Tie as tie
 
 returns : tie.Need-returns
 returns c =
-    let s = c.before.before.before.before.read in
+    let s = c.before.before.before.before.read-found in
     record { result = s.result; number = c.read_number.ensures; read = s.ensures }
 
-pub bucketmonk-read-spec : {M : Type 1} → statement M
-bucketmonk-read-spec =
+pub bucketmonk_read_spec : {M : Type 1} → statement M
+bucketmonk_read_spec =
     tie.close
     (tie.spec
     (λ c κs. search rules)

@@ -6,11 +6,11 @@ use Rattle.bucketmonk_c.proofs.bucketmonk_solve.Tie as tie
 returns : tie.Need-returns
 returns c =
     let s = c.before.before.before.before.before.before.before.before.before.before.solve in
-    let b = c.before.before.before.before.before.before.before.before.before.before.before.before.before.before.before.before.blame-of.ensures in
-    record { solved = s.result; number = c.solved-number.ensures; answered = rw b at s.ensures }
+    let b = c.before.before.before.before.before.before.before.before.before.before.before.before.before.before.before.before.blame_of.ensures in
+    record { solved = s.result; number = c.solved_number.ensures; answered = rw b at s.ensures }
 
-pub bucketmonk-solve-spec : {M : Type 1} → statement M
-bucketmonk-solve-spec =
+pub bucketmonk_solve_spec : {M : Type 1} → statement M
+bucketmonk_solve_spec =
     tie.close
     (tie.spec
     (λ c κs. search rules)

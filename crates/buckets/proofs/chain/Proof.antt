@@ -10,5 +10,5 @@ fill-requires c κs = fillable c.before.before.before.before.empty.ensures.long 
 returns : tie.Need-returns
 returns c = chains_sized c.before.before.before.before.before.before.before.before.before.empty.ensures.long c.before.before.before.before.fill.ensures
 
-pub chain-spec : {M : Type 1} → statement M
-chain-spec = tie.close (tie.spec (λ c κs. search rules) fill-requires (λ c. search rules) (λ c. search rules) returns)
+pub chain_spec : {M : Type 1} → statement M
+chain_spec = tie.close (tie.spec (λ c κs. search rules) fill-requires (λ c. search rules) (λ c. search rules) returns)

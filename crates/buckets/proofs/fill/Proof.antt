@@ -8,36 +8,36 @@ use Rattle.buckets.specs.Buckets.{Chaining, chaining_start, chaining_more}
 use Rattle.buckets.proofs.fill.Statement.{statement}
 use Rattle.buckets.proofs.fill.Tie as tie
 
-abbrev invariant-loop : tie.invariant-loop
+abbrev invariant-loop : tie.invariant-loop-t
 invariant-loop n keys first₀ next₀ t₀ first next t = Chaining n t (length first₀) (length next₀) keys first next
 
-abbrev decreases-loop : tie.decreases-loop
+abbrev decreases-loop : tie.decreases-loop-t
 decreases-loop n keys first₀ next₀ t₀ first next t = t
 
-loop-holds : tie.Need-loop-init invariant-loop decreases-loop
+loop-holds : tie.Need-loop-t-init invariant-loop decreases-loop
 loop-holds c = chaining_start _ _ _ c.before.before.before.requires.1
 
-slice-read-next : tie.Need-slice-read-next invariant-loop decreases-loop
-slice-read-next c = rw (c.before.index.ensures.0, c.before.before.before.before.loop.invariant.starts.long) (c.before.before.before.before.before.before.before.before.requires.0.below (c.before.before.before.before.loop.t - 1) (omega (arith, c.before.before.before.before.loop.invariant.links.upto, c.before.before.before.loop-test.true)))
+slice-read-next : tie.Need-bounds-first-k invariant-loop decreases-loop
+slice-read-next c = rw (c.before.index-k.ensures.0, c.before.before.before.before.loop-t.invariant.starts.long) (c.before.before.before.before.before.before.before.before.requires.0.below (c.before.before.before.before.loop-t.t - 1) (omega (arith, c.before.before.before.before.loop-t.invariant.links.upto, c.before.before.before.loop-t-test.true)))
 
-slice-write-next : tie.Need-slice-write-next invariant-loop decreases-loop
-slice-write-next c = omega (arith, c.before.before.before.before.loop.invariant.room, c.before.before.before.before.loop.invariant.links.upto, c.before.before.before.before.before.before.before.before.requires.0.links_long, c.before.before.before.loop-test.true)
+slice-write-next : tie.Need-bounds-next-t invariant-loop decreases-loop
+slice-write-next c = omega (arith, c.before.before.before.before.loop-t.invariant.room, c.before.before.before.before.loop-t.invariant.links.upto, c.before.before.before.before.before.before.before.before.requires.0.links_long, c.before.before.before.loop-t-test.true)
 
-slice-write-first : tie.Need-slice-write-first invariant-loop decreases-loop
-slice-write-first c = rw (c.before.before.index.ensures.0, c.before.before.before.before.before.loop.invariant.starts.long) (c.before.before.before.before.before.before.before.before.before.requires.0.below (c.before.before.before.before.before.loop.t - 1) (omega (arith, c.before.before.before.before.before.loop.invariant.links.upto, c.before.before.before.before.loop-test.true)))
+slice-write-first : tie.Need-bounds-first-k-in-loop-t invariant-loop decreases-loop
+slice-write-first c = rw (c.before.before.index-k.ensures.0, c.before.before.before.before.before.loop-t.invariant.starts.long) (c.before.before.before.before.before.before.before.before.before.requires.0.below (c.before.before.before.before.before.loop-t.t - 1) (omega (arith, c.before.before.before.before.before.loop-t.invariant.links.upto, c.before.before.before.before.loop-t-test.true)))
 
-loop-again : tie.Need-loop-preserved invariant-loop decreases-loop
-loop-again c = rw c.before.before.index.ensures.0
-    (chaining_more c.before.before.before.before.before.before.before.before.before.args.n c.before.before.before.before.before.loop.t (length c.before.before.before.before.before.before.before.before.before.args.first.now) (length c.before.before.before.before.before.before.before.before.before.args.next.now) c.before.before.before.before.before.before.before.before.before.args.keys.now c.before.before.before.before.before.loop.first c.before.before.before.before.before.loop.next c.before.before.before.before.before.before.before.before.before.requires.0.links_long c.before.before.before.before.before.before.before.before.before.requires.0.below (omega (arith, c.before.before.before.before.loop-test.true)) c.link.ensures c.before.before.before.before.before.loop.invariant)
+loop-again : tie.Need-loop-t-preserved invariant-loop decreases-loop
+loop-again c = rw c.before.before.index-k.ensures.0
+    (chaining_more c.before.before.before.before.before.before.before.before.before.args.n c.before.before.before.before.before.loop-t.t (length c.before.before.before.before.before.before.before.before.before.args.first.now) (length c.before.before.before.before.before.before.before.before.before.args.next.now) c.before.before.before.before.before.before.before.before.before.args.keys.now c.before.before.before.before.before.loop-t.first c.before.before.before.before.before.loop-t.next c.before.before.before.before.before.before.before.before.before.requires.0.links_long c.before.before.before.before.before.before.before.before.before.requires.0.below (omega (arith, c.before.before.before.before.loop-t-test.true)) c.link.ensures c.before.before.before.before.before.loop-t.invariant)
 
-same_length : tie.Need-same-length invariant-loop decreases-loop
-same_length c = c.before.loop.invariant.starts.long
+same_length : tie.Need-shape_of-first invariant-loop decreases-loop
+same_length c = c.before.loop-t.invariant.starts.long
 
-same-length-2 : tie.Need-same-length-2 invariant-loop decreases-loop
-same-length-2 c = c.before.loop.invariant.room
+same-length-2 : tie.Need-shape_of-next invariant-loop decreases-loop
+same-length-2 c = c.before.loop-t.invariant.room
 
 returns : tie.Need-returns invariant-loop decreases-loop
-returns c = let e : c.before.loop.t ≡ 0 = omega (arith, c.loop-test.false) in record { starts = rw e at c.before.loop.invariant.starts; links = rw e at c.before.loop.invariant.links; room = omega (arith, c.before.loop.invariant.room, c.before.before.before.before.before.requires.0.links_long) }
+returns c = let e : c.before.loop-t.t ≡ 0 = omega (arith, c.loop-t-test.false) in record { starts = rw e at c.before.loop-t.invariant.starts; links = rw e at c.before.loop-t.invariant.links; room = omega (arith, c.before.loop-t.invariant.room, c.before.before.before.before.before.requires.0.links_long) }
 
 pub fill_spec : {M : Type 1} → statement M
 fill_spec =

@@ -12,32 +12,32 @@ use Rattle.columns.specs.Answered.{labelled, as_many}
 use Rattle.columns.proofs.tell_differences.Statement.{statement}
 use Rattle.columns.proofs.tell_differences.Tie as tie
 
-fill-heights-requires : tie.Need-fill-heights-requires
+fill-heights-requires : tie.Need-fill_heights-requires
 fill-heights-requires c κs = let s = c.before.before.before.before in
     let l = labelled s.args.terms.now s.args.propositions.now s.args.reps.now s.args.offs.now s.requires.0 in
     (labelled_few l, (labelled_offsets l, refl))
 
-fill-reads-requires : tie.Need-fill-reads-requires
+fill-reads-requires : tie.Need-fill_reads-requires
 fill-reads-requires c κs = let s = c.before.before.before.before.before.before.before.before in
     let l = labelled s.args.terms.now s.args.propositions.now s.args.reps.now s.args.offs.now s.requires.0 in
     (labelled_terms l, (refl, refl))
 
-fill-sides-requires : tie.Need-fill-sides-requires
+fill-sides-requires : tie.Need-fill_sides-requires
 fill-sides-requires c κs = let s = c.before.before.before.before.before.before.before.before.before.before.before.before.before.before.before in
     let l = labelled s.args.terms.now s.args.propositions.now s.args.reps.now s.args.offs.now s.requires.0 in
     (labelled_sides l, (refl, (refl, (refl, refl))))
 
-apart-classes-requires : tie.Need-apart-classes-requires
+apart-classes-requires : tie.Need-apart_classes-requires
 apart-classes-requires c κs = let s = c.before.before.before.before.before.before.before.before.before.before.before.before.before.before.before.before.before.before.before.before.before in
     let l = labelled s.args.terms.now s.args.propositions.now s.args.reps.now s.args.offs.now s.requires.0 in
     (labelled_classes l, omega (arith, square_small (length s.args.terms.now) s.requires.0.accepted.few_terms))
 
-tell-places-requires : tie.Need-tell-places-requires
+tell-places-requires : tie.Need-tell_places-requires
 tell-places-requires c κs = let s = c.before.before.before.before.before.before.before.before.before.before.before.before.before.before.before.before.before.before.before.before.before.before.before.before.before.before.before.before.before.before.before.before.before in
-    (s.requires.0, (record { terms = as_many s.requires.0.offs_count c.before.before.before.before.before.before.before.before.before.before.before.before.before.before.before.before.before.before.before.before.before.before.before.before.before.before.before.before.fill-heights.ensures; reading = c.before.before.before.before.before.before.before.before.before.before.before.before.before.before.before.before.before.before.before.before.before.before.before.before.fill-reads.ensures; sides = c.before.before.before.before.before.before.before.before.before.before.before.before.before.before.before.before.before.fill-sides.ensures; apart_classes = c.before.before.before.before.before.before.before.before.before.before.before.apart_classes.ensures }, s.requires.1))
+    (s.requires.0, (record { terms = as_many s.requires.0.offs_count c.before.before.before.before.before.before.before.before.before.before.before.before.before.before.before.before.before.before.before.before.before.before.before.before.before.before.before.before.fill_heights.ensures; reading = c.before.before.before.before.before.before.before.before.before.before.before.before.before.before.before.before.before.before.before.before.before.before.before.before.fill_reads.ensures; sides = c.before.before.before.before.before.before.before.before.before.before.before.before.before.before.before.before.before.fill_sides.ensures; apart_classes = c.before.before.before.before.before.before.before.before.before.before.before.apart_classes.ensures }, s.requires.1))
 
-pub tell-differences-spec : {M : Type 1} → statement M
-tell-differences-spec =
+pub tell_differences_spec : {M : Type 1} → statement M
+tell_differences_spec =
     tie.close
     (tie.spec
     (λ c. refl)
@@ -63,4 +63,4 @@ tell-differences-spec =
     tell-places-requires
     (λ c. search rules)
     (λ c. search rules)
-    (λ c. c.before.before.before.before.tell-places.ensures))
+    (λ c. c.before.before.before.before.tell_places.ensures))

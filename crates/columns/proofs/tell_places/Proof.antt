@@ -7,12 +7,12 @@ use Rattle.columns.specs.Answered.{placed, answers_told}
 use Rattle.columns.proofs.tell_places.Statement.{statement}
 use Rattle.columns.proofs.tell_places.Tie as tie
 
-pair-table-requires : tie.Need-pair-table-requires
+pair-table-requires : tie.Need-pair_table-requires
 pair-table-requires c κs = let s = c.before.before.before.before.before.before.before.before.before.before.before.before in
     let F = s.requires.1.0 in
     (table_given (set_of s.args.terms.now s.args.propositions.now) s.args.reps.now s.args.offs.now s.requires.0 F.terms F.reading F.sides F.apart_classes, omega (arith, s.requires.1.1.pairs_count))
 
-answer-all-requires : tie.Need-answer-all-requires
+answer-all-requires : tie.Need-answer_all-requires
 answer-all-requires c κs = let s = c.before.before.before.before.before.before.before.before.before.before.before.before.before.before.before.before.before in
     let F = s.requires.1.0 in
     let Q = s.requires.1.1 in (
@@ -28,15 +28,15 @@ returns c = let s = c.before.before.before.before.before.before.before.before.be
     let F = s.requires.1.0 in
     let T = c.before.before.before.before.before.before.before.pair-table.ensures in (
       pairs_told (set_of s.args.terms.now s.args.propositions.now) s.args.reps.now s.args.offs.now s.requires.0 F.terms F.reading F.sides F.apart_classes T s.requires.1.1.pairs_count,
-      answers_told (set_of s.args.terms.now s.args.propositions.now) s.args.reps.now s.args.offs.now s.requires.0 F T s.args.questions.now s.requires.1.1.accepted c.before.before.answer-all.ensures,
+      answers_told (set_of s.args.terms.now s.args.propositions.now) s.args.reps.now s.args.offs.now s.requires.0 F T s.args.questions.now s.requires.1.1.accepted c.before.before.answer_all.ensures,
     )
 
-pub tell-places-spec : {M : Type 1} → statement M
-tell-places-spec =
+pub tell_places_spec : {M : Type 1} → statement M
+tell_places_spec =
     tie.close
     (tie.spec
     pair-table-requires
     answer-all-requires
     (λ c. c.before.before.before.before.before.before.before.pair-table.ensures.long)
-    (λ c. c.before.before.answer-all.ensures.long ∙ sym c.before.before.before.before.before.before.before.before.before.before.before.before.before.before.before.before.before.before.before.before.requires.1.1.answers_count)
+    (λ c. c.before.before.answer_all.ensures.long ∙ sym c.before.before.before.before.before.before.before.before.before.before.before.before.before.before.before.before.before.before.before.before.requires.1.1.answers_count)
     returns)

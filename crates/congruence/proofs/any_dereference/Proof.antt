@@ -6,23 +6,23 @@ use native.Mathlib.Omega.{arith}
 use Rattle.congruence.proofs.any_dereference.Statement.{statement}
 use Rattle.congruence.proofs.any_dereference.Tie as tie
 
-abbrev invariant-loop : tie.invariant-loop
+abbrev invariant-loop : tie.invariant-loop-t
 invariant-loop terms t₀ t-end t = 0 ≤ t
 
-abbrev decreases-loop : tie.decreases-loop
+abbrev decreases-loop : tie.decreases-loop-t
 decreases-loop terms t₀ t-end t = length terms - t
 
-loop-holds : tie.Need-loop-init invariant-loop decreases-loop
+loop-holds : tie.Need-loop-t-init invariant-loop decreases-loop
 loop-holds c = omega arith
 
-loop-less : tie.Need-loop-smaller invariant-loop decreases-loop
-loop-less c = omega (arith, c.before.before.before.loop-test.true)
+loop-less : tie.Need-loop-t-smaller invariant-loop decreases-loop
+loop-less c = omega (arith, c.before.before.before.loop-t-test.true)
 
-loop-again : tie.Need-loop-preserved invariant-loop decreases-loop
+loop-again : tie.Need-loop-t-preserved invariant-loop decreases-loop
 loop-again c = omega arith
 
-pub any-dereference-spec : {M : Type 1} → statement M
-any-dereference-spec =
+pub any_dereference_spec : {M : Type 1} → statement M
+any_dereference_spec =
     tie.close
     (tie.spec
     invariant-loop

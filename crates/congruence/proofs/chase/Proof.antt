@@ -23,30 +23,30 @@ loop-holds c =
     let s = c.before in
     (omega arith, (chased_start (length s.args.terms.now) (term_in s.args.terms.now) s.requires.1, refl))
 
-same_length : tie.Need-same-length invariant-loop decreases-loop
+same_length : tie.Need-shape_of-parents-then-terms-x invariant-loop decreases-loop
 same_length c = chased_long _ _ c.before.before.before.before.loop.invariant.1.0
 
-same-length-2 : tie.Need-same-length-2 invariant-loop decreases-loop
+same-length-2 : tie.Need-shape_of-offsets-then-terms-x invariant-loop decreases-loop
 same-length-2 c = c.before.before.before.before.loop.invariant.1.1
 
-returns : tie.Need-returns invariant-loop decreases-loop
+returns : tie.Need-returns-then-terms-x invariant-loop decreases-loop
 returns c = c.before.before.before.before.loop.invariant.1.0
 
 step-requires : tie.Need-step-requires invariant-loop decreases-loop
 step-requires c κs =
     let s = c.before.before.before.before.before.before.before.before.before.before in
-    (s.requires.0, (chased_labels _ _ c.before.before.before.before.before.before.before.before.loop.invariant.1.0, omega (arith, c.before.before.before.before.if1.false)))
+    (s.requires.0, (chased_labels _ _ c.before.before.before.before.before.before.before.before.loop.invariant.1.0, omega (arith, c.before.before.before.before.if-terms-x.false)))
 
-same-length-3 : tie.Need-same-length-3 invariant-loop decreases-loop
+same-length-3 : tie.Need-shape_of-parents-then-not-step invariant-loop decreases-loop
 same-length-3 c = c.before.before.before.before.step.auto.1.0 ∙ chased_long _ _ c.before.before.before.before.before.before.before.before.before.before.before.before.before.loop.invariant.1.0
 
-same-length-4 : tie.Need-same-length-4 invariant-loop decreases-loop
+same-length-4 : tie.Need-shape_of-offsets-then-not-step invariant-loop decreases-loop
 same-length-4 c = c.before.before.before.before.step.auto.1.1.0 ∙ c.before.before.before.before.before.before.before.before.before.before.before.before.before.loop.invariant.1.1
 
-returns-2 : tie.Need-returns-2 invariant-loop decreases-loop
-returns-2 c = chased_then _ _ c.before.before.before.before.before.before.before.before.before.before.before.before.before.loop.invariant.1.0 (rw (not-true c.before.before.before.before.step.result c.if2.true) at c.before.before.before.before.step.ensures)
+returns-2 : tie.Need-returns-then-not-step invariant-loop decreases-loop
+returns-2 c = chased_then _ _ c.before.before.before.before.before.before.before.before.before.before.before.before.before.loop.invariant.1.0 (rw (not-true c.before.before.before.before.step.result c.if-not-step.true) at c.before.before.before.before.step.ensures)
 
-add-counter : tie.Need-overflow-add-counter invariant-loop decreases-loop
+add-counter : tie.Need-overflow_step invariant-loop decreases-loop
 add-counter c = omega (arith, c.before.before.before.before.before.before.before.before.before.before.before.before.loop-test.true)
 
 loop-less : tie.Need-loop-smaller invariant-loop decreases-loop
@@ -56,22 +56,22 @@ loop-again : tie.Need-loop-preserved invariant-loop decreases-loop
 loop-again c = (
   omega (arith, c.before.before.before.before.before.before.before.before.before.before.before.before.loop-test.true),
   (
-    chased_then _ _ c.before.before.before.before.before.before.before.before.before.before.before.before.before.loop.invariant.1.0 (rw (not-false c.before.before.before.before.step.result c.if2.false) at c.before.before.before.before.step.ensures),
+    chased_then _ _ c.before.before.before.before.before.before.before.before.before.before.before.before.before.loop.invariant.1.0 (rw (not-false c.before.before.before.before.step.result c.if-not-step.false) at c.before.before.before.before.step.ensures),
     c.before.before.before.before.step.auto.1.1.0 ∙ c.before.before.before.before.before.before.before.before.before.before.before.before.before.loop.invariant.1.1,
   ),
 )
 
-same-length-5 : tie.Need-same-length-5 invariant-loop decreases-loop
+same-length-5 : tie.Need-shape_of-parents invariant-loop decreases-loop
 same-length-5 c = chased_long _ _ c.before.loop.invariant.1.0
 
-same-length-6 : tie.Need-same-length-6 invariant-loop decreases-loop
+same-length-6 : tie.Need-shape_of-offsets invariant-loop decreases-loop
 same-length-6 c = c.before.loop.invariant.1.1
 
-returns-3 : tie.Need-returns-3 invariant-loop decreases-loop
+returns-3 : tie.Need-returns invariant-loop decreases-loop
 returns-3 c = c.before.loop.invariant.1.0
 
-pub chase-spec : {M : Type 1} → statement M
-chase-spec =
+pub chase_spec : {M : Type 1} → statement M
+chase_spec =
     tie.close
     (tie.spec
     invariant-loop

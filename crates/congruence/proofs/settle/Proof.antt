@@ -12,59 +12,59 @@ use Rattle.congruence.specs.Settling.{flattened_unchanged, flattened_view, label
 use Rattle.congruence.proofs.settle.Statement.{statement}
 use Rattle.congruence.proofs.settle.Tie as tie
 
-abbrev invariant-loop : tie.invariant-loop
+abbrev invariant-loop : tie.invariant-loop-x
 invariant-loop terms parents₀ offsets₀ parents offsets = Chased (length terms) (term_in terms) parents₀ offsets₀ parents offsets true × (length offsets ≡ length offsets₀)
 
-abbrev decreases-loop : tie.decreases-loop
+abbrev decreases-loop : tie.decreases-loop-x
 decreases-loop terms parents₀ offsets₀ parents offsets = weight (length terms) (flat parents offsets)
 
-loop-holds : tie.Need-loop-init invariant-loop decreases-loop
+loop-holds : tie.Need-loop-x-init invariant-loop decreases-loop
 loop-holds c = let s = c.before in (chased_start (length s.args.terms.now) (term_in s.args.terms.now) s.requires.1, refl)
 
 flatten-requires : tie.Need-flatten-requires invariant-loop decreases-loop
-flatten-requires c κs = let s = c.before.before.before.before in let L = chased_labels (length s.args.terms.now) (term_in s.args.terms.now) c.before.before.loop.invariant.0 in (L.links, labels_near L)
+flatten-requires c κs = let s = c.before.before.before.before in let L = chased_labels (length s.args.terms.now) (term_in s.args.terms.now) c.before.before.loop-x.invariant.0 in (L.links, labels_near L)
 
-unequal-pair-requires : tie.Need-unequal-pair-requires invariant-loop decreases-loop
+unequal-pair-requires : tie.Need-unequal_pair-requires invariant-loop decreases-loop
 unequal-pair-requires c κs = let s = c.before.before.before.before.before.before.before.before.before.before in let k = unchanged_chased (length s.args.terms.now) (term_in s.args.terms.now) (chased_labels (length s.args.terms.now) (term_in s.args.terms.now) c.before.before.before.before.before.before.before.before.loop.invariant.0) (chased_chain (length s.args.terms.now) (term_in s.args.terms.now) c.before.before.before.before.before.before.before.before.loop.invariant.0) (chased_long (length s.args.terms.now) (term_in s.args.terms.now) c.before.before.before.before.before.before.before.before.loop.invariant.0) (flattened_unchanged c.before.before.before.before.before.flatten.ensures) in let v = flattened_view c.before.before.before.before.before.flatten.ensures in labelled s.args.terms.now s.requires.0 (chased_labels (length s.args.terms.now) (term_in s.args.terms.now) k) v
 
-same_length : tie.Need-same-length invariant-loop decreases-loop
+same_length : tie.Need-shape_of-parents-in-Closed invariant-loop decreases-loop
 same_length c = let s = c.before.before.before.before.before.before.before.before.before.before.before.before.before in c.before.before.before.before.before.before.before.before.flatten.ensures.long ∙ chased_long (length s.args.terms.now) (term_in s.args.terms.now) c.before.before.before.before.before.before.before.before.before.before.before.loop.invariant.0
 
-same-length-2 : tie.Need-same-length-2 invariant-loop decreases-loop
+same-length-2 : tie.Need-shape_of-offsets-in-Closed invariant-loop decreases-loop
 same-length-2 c = c.before.before.before.before.before.before.before.before.flatten.ensures.offsets_long ∙ c.before.before.before.before.before.before.before.before.before.before.before.loop.invariant.1
 
-returns : tie.Need-returns invariant-loop decreases-loop
-returns c = let s = c.before.before.before.before.before.before.before.before.before.before.before.before.before in let k = unchanged_chased (length s.args.terms.now) (term_in s.args.terms.now) (chased_labels (length s.args.terms.now) (term_in s.args.terms.now) c.before.before.before.before.before.before.before.before.before.before.before.loop.invariant.0) (chased_chain (length s.args.terms.now) (term_in s.args.terms.now) c.before.before.before.before.before.before.before.before.before.before.before.loop.invariant.0) (chased_long (length s.args.terms.now) (term_in s.args.terms.now) c.before.before.before.before.before.before.before.before.before.before.before.loop.invariant.0) (flattened_unchanged c.before.before.before.before.before.before.before.before.flatten.ensures) in let v = flattened_view c.before.before.before.before.before.before.before.before.flatten.ensures in settled (length s.args.terms.now) (term_in s.args.terms.now) k v (rw c.enum_told.given.1 at c.before.before.unequal_pair.ensures)
+returns : tie.Need-returns-in-Closed invariant-loop decreases-loop
+returns c = let s = c.before.before.before.before.before.before.before.before.before.before.before.before.before in let k = unchanged_chased (length s.args.terms.now) (term_in s.args.terms.now) (chased_labels (length s.args.terms.now) (term_in s.args.terms.now) c.before.before.before.before.before.before.before.before.before.before.before.loop.invariant.0) (chased_chain (length s.args.terms.now) (term_in s.args.terms.now) c.before.before.before.before.before.before.before.before.before.before.before.loop.invariant.0) (chased_long (length s.args.terms.now) (term_in s.args.terms.now) c.before.before.before.before.before.before.before.before.before.before.before.loop.invariant.0) (flattened_unchanged c.before.before.before.before.before.before.before.before.flatten.ensures) in let v = flattened_view c.before.before.before.before.before.before.before.before.flatten.ensures in settled (length s.args.terms.now) (term_in s.args.terms.now) k v (rw c.enum_told-1.given.1 at c.before.before.unequal_pair.ensures)
 
 join-requires : tie.Need-join-requires invariant-loop decreases-loop
-join-requires c κs = let s = c.before.before.before.before.before.before.before.before.before.before.before.before.before.before.before.before in let k = unchanged_chased (length s.args.terms.now) (term_in s.args.terms.now) (chased_labels (length s.args.terms.now) (term_in s.args.terms.now) c.before.before.before.before.before.before.before.before.before.before.before.before.before.before.loop.invariant.0) (chased_chain (length s.args.terms.now) (term_in s.args.terms.now) c.before.before.before.before.before.before.before.before.before.before.before.before.before.before.loop.invariant.0) (chased_long (length s.args.terms.now) (term_in s.args.terms.now) c.before.before.before.before.before.before.before.before.before.before.before.before.before.before.loop.invariant.0) (flattened_unchanged c.before.before.before.before.before.before.before.before.before.before.before.flatten.ensures) in let v = flattened_view c.before.before.before.before.before.before.before.before.before.before.before.flatten.ensures in let a = rw v at (looked_pair (length s.args.terms.now) (term_in s.args.terms.now) (rw c.before.before.before.x.given.1 at c.before.before.before.before.before.unequal_pair.ensures)) in let L = chased_labels (length s.args.terms.now) (term_in s.args.terms.now) k in ((L.links, labels_near L), (rw L.count a.below_x, (rw L.count a.below_y, within_zero)))
+join-requires c κs = let s = c.before.before.before.before.before.before.before.before.before.before.before.before.before.before.before.before in let k = unchanged_chased (length s.args.terms.now) (term_in s.args.terms.now) (chased_labels (length s.args.terms.now) (term_in s.args.terms.now) c.before.before.before.before.before.before.before.before.before.before.before.before.before.before.loop.invariant.0) (chased_chain (length s.args.terms.now) (term_in s.args.terms.now) c.before.before.before.before.before.before.before.before.before.before.before.before.before.before.loop.invariant.0) (chased_long (length s.args.terms.now) (term_in s.args.terms.now) c.before.before.before.before.before.before.before.before.before.before.before.before.before.before.loop.invariant.0) (flattened_unchanged c.before.before.before.before.before.before.before.before.before.before.before.flatten.ensures) in let v = flattened_view c.before.before.before.before.before.before.before.before.before.before.before.flatten.ensures in let a = rw v at (looked_pair (length s.args.terms.now) (term_in s.args.terms.now) (rw c.before.before.before.x-1.given.1 at c.before.before.before.before.before.unequal_pair.ensures)) in let L = chased_labels (length s.args.terms.now) (term_in s.args.terms.now) k in ((L.links, labels_near L), (rw L.count a.below_x, (rw L.count a.below_y, within_zero)))
 
-loop-less : tie.Need-loop-smaller invariant-loop decreases-loop
-loop-less c = let s = c.before.before.before.before.before.before.before.before.before.before.before.before.before.before.before.before.before.before.before.before.before.before in let k = unchanged_chased (length s.args.terms.now) (term_in s.args.terms.now) (chased_labels (length s.args.terms.now) (term_in s.args.terms.now) c.before.before.before.before.before.before.before.before.before.before.before.before.before.before.before.before.before.before.before.before.loop.invariant.0) (chased_chain (length s.args.terms.now) (term_in s.args.terms.now) c.before.before.before.before.before.before.before.before.before.before.before.before.before.before.before.before.before.before.before.before.loop.invariant.0) (chased_long (length s.args.terms.now) (term_in s.args.terms.now) c.before.before.before.before.before.before.before.before.before.before.before.before.before.before.before.before.before.before.before.before.loop.invariant.0) (flattened_unchanged c.before.before.before.before.before.before.before.before.before.before.before.before.before.before.before.before.before.flatten.ensures) in let v = flattened_view c.before.before.before.before.before.before.before.before.before.before.before.before.before.before.before.before.before.flatten.ensures in let a = rw v at (looked_pair (length s.args.terms.now) (term_in s.args.terms.now) (rw c.before.before.before.before.before.before.before.before.before.x.given.1 at c.before.before.before.before.before.before.before.before.before.before.before.unequal_pair.ensures)) in rw (← c.before.before.before.before.before.before.before.before.before.before.before.before.before.before.before.before.before.flatten.ensures.same) (pair_lighter (length s.args.terms.now) (term_in s.args.terms.now) k a (rw c.enum-told2.given.1 at c.before.before.before.before.before.join.ensures))
+loop-less : tie.Need-loop-x-smaller invariant-loop decreases-loop
+loop-less c = let s = c.before.before.before.before.before.before.before.before.before.before.before.before.before.before.before.before.before.before.before.before.before.before in let k = unchanged_chased (length s.args.terms.now) (term_in s.args.terms.now) (chased_labels (length s.args.terms.now) (term_in s.args.terms.now) c.before.before.before.before.before.before.before.before.before.before.before.before.before.before.before.before.before.before.before.before.loop.invariant.0) (chased_chain (length s.args.terms.now) (term_in s.args.terms.now) c.before.before.before.before.before.before.before.before.before.before.before.before.before.before.before.before.before.before.before.before.loop.invariant.0) (chased_long (length s.args.terms.now) (term_in s.args.terms.now) c.before.before.before.before.before.before.before.before.before.before.before.before.before.before.before.before.before.before.before.before.loop.invariant.0) (flattened_unchanged c.before.before.before.before.before.before.before.before.before.before.before.before.before.before.before.before.before.flatten.ensures) in let v = flattened_view c.before.before.before.before.before.before.before.before.before.before.before.before.before.before.before.before.before.flatten.ensures in let a = rw v at (looked_pair (length s.args.terms.now) (term_in s.args.terms.now) (rw c.before.before.before.before.before.before.before.before.before.x-1.given.1 at c.before.before.before.before.before.before.before.before.before.before.before.unequal_pair.ensures)) in rw (← c.before.before.before.before.before.before.before.before.before.before.before.before.before.before.before.before.before.flatten.ensures.same) (pair_lighter (length s.args.terms.now) (term_in s.args.terms.now) k a (rw c.enum_told-in-Joined-1.given.1 at c.before.before.before.before.before.join.ensures))
 
-loop-again : tie.Need-loop-preserved invariant-loop decreases-loop
-loop-again c = let s = c.before.before.before.before.before.before.before.before.before.before.before.before.before.before.before.before.before.before.before.before.before.before in let k = unchanged_chased (length s.args.terms.now) (term_in s.args.terms.now) (chased_labels (length s.args.terms.now) (term_in s.args.terms.now) c.before.before.before.before.before.before.before.before.before.before.before.before.before.before.before.before.before.before.before.before.loop.invariant.0) (chased_chain (length s.args.terms.now) (term_in s.args.terms.now) c.before.before.before.before.before.before.before.before.before.before.before.before.before.before.before.before.before.before.before.before.loop.invariant.0) (chased_long (length s.args.terms.now) (term_in s.args.terms.now) c.before.before.before.before.before.before.before.before.before.before.before.before.before.before.before.before.before.before.before.before.loop.invariant.0) (flattened_unchanged c.before.before.before.before.before.before.before.before.before.before.before.before.before.before.before.before.before.flatten.ensures) in let v = flattened_view c.before.before.before.before.before.before.before.before.before.before.before.before.before.before.before.before.before.flatten.ensures in let a = rw v at (looked_pair (length s.args.terms.now) (term_in s.args.terms.now) (rw c.before.before.before.before.before.before.before.before.before.x.given.1 at c.before.before.before.before.before.before.before.before.before.before.before.unequal_pair.ensures)) in (pair_joined (length s.args.terms.now) (term_in s.args.terms.now) k a (rw c.enum-told2.given.1 at c.before.before.before.before.before.join.ensures), c.before.before.before.before.before.join.auto.1.0 ∙ (c.before.before.before.before.before.before.before.before.before.before.before.before.before.before.before.before.before.flatten.ensures.offsets_long ∙ c.before.before.before.before.before.before.before.before.before.before.before.before.before.before.before.before.before.before.before.before.loop.invariant.1))
+loop-again : tie.Need-loop-x-preserved invariant-loop decreases-loop
+loop-again c = let s = c.before.before.before.before.before.before.before.before.before.before.before.before.before.before.before.before.before.before.before.before.before.before in let k = unchanged_chased (length s.args.terms.now) (term_in s.args.terms.now) (chased_labels (length s.args.terms.now) (term_in s.args.terms.now) c.before.before.before.before.before.before.before.before.before.before.before.before.before.before.before.before.before.before.before.before.loop.invariant.0) (chased_chain (length s.args.terms.now) (term_in s.args.terms.now) c.before.before.before.before.before.before.before.before.before.before.before.before.before.before.before.before.before.before.before.before.loop.invariant.0) (chased_long (length s.args.terms.now) (term_in s.args.terms.now) c.before.before.before.before.before.before.before.before.before.before.before.before.before.before.before.before.before.before.before.before.loop.invariant.0) (flattened_unchanged c.before.before.before.before.before.before.before.before.before.before.before.before.before.before.before.before.before.flatten.ensures) in let v = flattened_view c.before.before.before.before.before.before.before.before.before.before.before.before.before.before.before.before.before.flatten.ensures in let a = rw v at (looked_pair (length s.args.terms.now) (term_in s.args.terms.now) (rw c.before.before.before.before.before.before.before.before.before.x-1.given.1 at c.before.before.before.before.before.before.before.before.before.before.before.unequal_pair.ensures)) in (pair_joined (length s.args.terms.now) (term_in s.args.terms.now) k a (rw c.enum_told-in-Joined-1.given.1 at c.before.before.before.before.before.join.ensures), c.before.before.before.before.before.join.auto.1.0 ∙ (c.before.before.before.before.before.before.before.before.before.before.before.before.before.before.before.before.before.flatten.ensures.offsets_long ∙ c.before.before.before.before.before.before.before.before.before.before.before.before.before.before.before.before.before.before.before.before.loop.invariant.1))
 
-same-length-3 : tie.Need-same-length-3 invariant-loop decreases-loop
+same-length-3 : tie.Need-shape_of-parents-in-Held invariant-loop decreases-loop
 same-length-3 c = let s = c.before.before.before.before.before.before.before.before.before.before.before.before.before.before.before.before.before.before.before.before.before.before in c.before.before.before.before.before.join.auto.0 ∙ (c.before.before.before.before.before.before.before.before.before.before.before.before.before.before.before.before.before.flatten.ensures.long ∙ chased_long (length s.args.terms.now) (term_in s.args.terms.now) c.before.before.before.before.before.before.before.before.before.before.before.before.before.before.before.before.before.before.before.before.loop.invariant.0)
 
-same-length-4 : tie.Need-same-length-4 invariant-loop decreases-loop
+same-length-4 : tie.Need-shape_of-offsets-in-Held invariant-loop decreases-loop
 same-length-4 c = c.before.before.before.before.before.join.auto.1.0 ∙ (c.before.before.before.before.before.before.before.before.before.before.before.before.before.before.before.before.before.flatten.ensures.offsets_long ∙ c.before.before.before.before.before.before.before.before.before.before.before.before.before.before.before.before.before.before.before.before.loop.invariant.1)
 
-returns-2 : tie.Need-returns-2 invariant-loop decreases-loop
-returns-2 c = let s = c.before.before.before.before.before.before.before.before.before.before.before.before.before.before.before.before.before.before.before.before.before.before in let k = unchanged_chased (length s.args.terms.now) (term_in s.args.terms.now) (chased_labels (length s.args.terms.now) (term_in s.args.terms.now) c.before.before.before.before.before.before.before.before.before.before.before.before.before.before.before.before.before.before.before.before.loop.invariant.0) (chased_chain (length s.args.terms.now) (term_in s.args.terms.now) c.before.before.before.before.before.before.before.before.before.before.before.before.before.before.before.before.before.before.before.before.loop.invariant.0) (chased_long (length s.args.terms.now) (term_in s.args.terms.now) c.before.before.before.before.before.before.before.before.before.before.before.before.before.before.before.before.before.before.before.before.loop.invariant.0) (flattened_unchanged c.before.before.before.before.before.before.before.before.before.before.before.before.before.before.before.before.before.flatten.ensures) in let v = flattened_view c.before.before.before.before.before.before.before.before.before.before.before.before.before.before.before.before.before.flatten.ensures in let a = rw v at (looked_pair (length s.args.terms.now) (term_in s.args.terms.now) (rw c.before.before.before.before.before.before.before.before.before.x.given.1 at c.before.before.before.before.before.before.before.before.before.before.before.unequal_pair.ensures)) in pair_held (length s.args.terms.now) (term_in s.args.terms.now) a (rw c.enum-told3.given.1 at c.before.before.before.before.before.join.ensures)
+returns-2 : tie.Need-returns-in-Held invariant-loop decreases-loop
+returns-2 c = let s = c.before.before.before.before.before.before.before.before.before.before.before.before.before.before.before.before.before.before.before.before.before.before in let k = unchanged_chased (length s.args.terms.now) (term_in s.args.terms.now) (chased_labels (length s.args.terms.now) (term_in s.args.terms.now) c.before.before.before.before.before.before.before.before.before.before.before.before.before.before.before.before.before.before.before.before.loop.invariant.0) (chased_chain (length s.args.terms.now) (term_in s.args.terms.now) c.before.before.before.before.before.before.before.before.before.before.before.before.before.before.before.before.before.before.before.before.loop.invariant.0) (chased_long (length s.args.terms.now) (term_in s.args.terms.now) c.before.before.before.before.before.before.before.before.before.before.before.before.before.before.before.before.before.before.before.before.loop.invariant.0) (flattened_unchanged c.before.before.before.before.before.before.before.before.before.before.before.before.before.before.before.before.before.flatten.ensures) in let v = flattened_view c.before.before.before.before.before.before.before.before.before.before.before.before.before.before.before.before.before.flatten.ensures in let a = rw v at (looked_pair (length s.args.terms.now) (term_in s.args.terms.now) (rw c.before.before.before.before.before.before.before.before.before.x-1.given.1 at c.before.before.before.before.before.before.before.before.before.before.before.unequal_pair.ensures)) in pair_held (length s.args.terms.now) (term_in s.args.terms.now) a (rw c.enum_told-in-Held-1.given.1 at c.before.before.before.before.before.join.ensures)
 
-same-length-5 : tie.Need-same-length-5 invariant-loop decreases-loop
+same-length-5 : tie.Need-shape_of-parents-in-Clashed invariant-loop decreases-loop
 same-length-5 c = let s = c.before.before.before.before.before.before.before.before.before.before.before.before.before.before.before.before.before.before.before.before.before.before in c.before.before.before.before.before.join.auto.0 ∙ (c.before.before.before.before.before.before.before.before.before.before.before.before.before.before.before.before.before.flatten.ensures.long ∙ chased_long (length s.args.terms.now) (term_in s.args.terms.now) c.before.before.before.before.before.before.before.before.before.before.before.before.before.before.before.before.before.before.before.before.loop.invariant.0)
 
-same-length-6 : tie.Need-same-length-6 invariant-loop decreases-loop
+same-length-6 : tie.Need-shape_of-offsets-in-Clashed invariant-loop decreases-loop
 same-length-6 c = c.before.before.before.before.before.join.auto.1.0 ∙ (c.before.before.before.before.before.before.before.before.before.before.before.before.before.before.before.before.before.flatten.ensures.offsets_long ∙ c.before.before.before.before.before.before.before.before.before.before.before.before.before.before.before.before.before.before.before.before.loop.invariant.1)
 
-returns-3 : tie.Need-returns-3 invariant-loop decreases-loop
-returns-3 c = let s = c.before.before.before.before.before.before.before.before.before.before.before.before.before.before.before.before.before.before.before.before.before.before in let k = unchanged_chased (length s.args.terms.now) (term_in s.args.terms.now) (chased_labels (length s.args.terms.now) (term_in s.args.terms.now) c.before.before.before.before.before.before.before.before.before.before.before.before.before.before.before.before.before.before.before.before.loop.invariant.0) (chased_chain (length s.args.terms.now) (term_in s.args.terms.now) c.before.before.before.before.before.before.before.before.before.before.before.before.before.before.before.before.before.before.before.before.loop.invariant.0) (chased_long (length s.args.terms.now) (term_in s.args.terms.now) c.before.before.before.before.before.before.before.before.before.before.before.before.before.before.before.before.before.before.before.before.loop.invariant.0) (flattened_unchanged c.before.before.before.before.before.before.before.before.before.before.before.before.before.before.before.before.before.flatten.ensures) in let v = flattened_view c.before.before.before.before.before.before.before.before.before.before.before.before.before.before.before.before.before.flatten.ensures in let a = rw v at (looked_pair (length s.args.terms.now) (term_in s.args.terms.now) (rw c.before.before.before.before.before.before.before.before.before.x.given.1 at c.before.before.before.before.before.before.before.before.before.before.before.unequal_pair.ensures)) in pair_clashed (length s.args.terms.now) (term_in s.args.terms.now) k a (rw c.enum-told4.given.1 at c.before.before.before.before.before.join.ensures)
+returns-3 : tie.Need-returns-in-Clashed invariant-loop decreases-loop
+returns-3 c = let s = c.before.before.before.before.before.before.before.before.before.before.before.before.before.before.before.before.before.before.before.before.before.before in let k = unchanged_chased (length s.args.terms.now) (term_in s.args.terms.now) (chased_labels (length s.args.terms.now) (term_in s.args.terms.now) c.before.before.before.before.before.before.before.before.before.before.before.before.before.before.before.before.before.before.before.before.loop.invariant.0) (chased_chain (length s.args.terms.now) (term_in s.args.terms.now) c.before.before.before.before.before.before.before.before.before.before.before.before.before.before.before.before.before.before.before.before.loop.invariant.0) (chased_long (length s.args.terms.now) (term_in s.args.terms.now) c.before.before.before.before.before.before.before.before.before.before.before.before.before.before.before.before.before.before.before.before.loop.invariant.0) (flattened_unchanged c.before.before.before.before.before.before.before.before.before.before.before.before.before.before.before.before.before.flatten.ensures) in let v = flattened_view c.before.before.before.before.before.before.before.before.before.before.before.before.before.before.before.before.before.flatten.ensures in let a = rw v at (looked_pair (length s.args.terms.now) (term_in s.args.terms.now) (rw c.before.before.before.before.before.before.before.before.before.x-1.given.1 at c.before.before.before.before.before.before.before.before.before.before.before.unequal_pair.ensures)) in pair_clashed (length s.args.terms.now) (term_in s.args.terms.now) k a (rw c.enum_told-in-Clashed-1.given.1 at c.before.before.before.before.before.join.ensures)
 
-pub settle-spec : {M : Type 1} → statement M
-settle-spec =
+pub settle_spec : {M : Type 1} → statement M
+settle_spec =
     tie.close
     (tie.spec
     invariant-loop

@@ -7,15 +7,15 @@ use Rattle.lists.specs.Filled.{Filled, filled_none, filled_more, filled_all, tab
 use Rattle.differences.proofs.clear.Statement.{statement}
 use Rattle.differences.proofs.clear.Tie as tie
 
-abbrev invariant-loop : tie.invariant-loop
+abbrev invariant-loop : tie.invariant-loop-k
 invariant-loop table₀ k₀ k-end table k = (k ≤ length table₀) × Filled {A = ℕ} (λ _. 0) 0 k (length table₀) table
 
-abbrev decreases-loop : tie.decreases-loop
+abbrev decreases-loop : tie.decreases-loop-k
 decreases-loop table₀ k₀ k-end table k = length table₀ - k
 
 returns : tie.Need-returns invariant-loop decreases-loop
-returns c = let i = c.before.loop.invariant in
-    let e : c.before.loop.k ≡ length c.before.before.args.table.now = omega (arith, c.loop-test.false, i.0) in
+returns c = let i = c.before.loop-k.invariant in
+    let e : c.before.loop-k.k ≡ length c.before.before.args.table.now = omega (arith, c.loop-k-test.false, i.0) in
     filled_all {A = ℕ} (λ _. 0) 0 (rw e at i.1) ∙ tabulate_value {A = ℕ} 0 0 (length c.before.before.args.table.now)
 
 pub clear_spec : {M : Type 1} → statement M
@@ -25,9 +25,9 @@ clear_spec =
     invariant-loop
     decreases-loop
     (λ c. (omega arith, filled_none _ 0 refl))
-    (λ c. omega (arith, c.before.loop.invariant.1.long, c.loop-test.true))
+    (λ c. omega (arith, c.before.loop-k.invariant.1.long, c.loop-k-test.true))
     (λ c. omega arith)
     (λ c. omega arith)
-    (λ c. (omega (arith, c.loop-test.true), filled_more _ 0 c.before.loop.invariant.1 (omega (arith, c.loop-test.true)) refl))
-    (λ c. c.before.loop.invariant.1.long)
+    (λ c. (omega (arith, c.loop-k-test.true), filled_more _ 0 c.before.loop-k.invariant.1 (omega (arith, c.loop-k-test.true)) refl))
+    (λ c. c.before.loop-k.invariant.1.long)
     returns)

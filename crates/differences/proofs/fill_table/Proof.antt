@@ -6,10 +6,10 @@ use Rattle.differences.specs.Table.{base_uniform, class_set, home_columns, room_
 use Rattle.differences.proofs.fill_table.Statement.{statement}
 use Rattle.differences.proofs.fill_table.Tie as tie
 
-note-readers-requires : tie.Need-note-readers-requires
+note-readers-requires : tie.Need-note_readers-requires
 note-readers-requires c κs = c.before.before.before.before.before.before.before.before.before.before.before.before.before.before.before.before.before.before.before.before.requires.1.0.leads_are.long
 
-mark-base-requires : tie.Need-mark-base-requires
+mark-base-requires : tie.Need-mark_base-requires
 mark-base-requires c κs = let p = c.before.before.before.before.before.before.before.before.before.before.before.before.before.before.before.before.before.before.before.before.before.before.before.requires in ((p.1.1, points_unique p.1.0.homes_are p.1.0.points_are), (p.0.0.sides, (p.0.0.apart_room, p.0.1)))
 
 settle-requires : tie.Need-settle-requires
@@ -26,8 +26,8 @@ settle-requires c κs = let s = c.before.before.before.before.before.before.befo
           (
             G.apart_room,
             (
-              room_based s.args.n s.args.m s.args.points.now s.args.heights.now s.args.left-classes.now s.args.left-heights.now s.args.right-classes.now s.args.right-heights.now s.args.apart.now s.args.pairs.now c.before.before.before.before.mark-base.ensures p.0.1,
-              base_uniform s.args.n s.args.m s.args.points.now s.args.heights.now s.args.left-classes.now s.args.left-heights.now s.args.right-classes.now s.args.right-heights.now s.args.apart.now c.before.before.before.before.mark-base.ensures,
+              room_based s.args.n s.args.m s.args.points.now s.args.heights.now s.args.left-classes.now s.args.left-heights.now s.args.right-classes.now s.args.right-heights.now s.args.apart.now s.args.pairs.now c.before.before.before.before.mark_base.ensures p.0.1,
+              base_uniform s.args.n s.args.m s.args.points.now s.args.heights.now s.args.left-classes.now s.args.left-heights.now s.args.right-classes.now s.args.right-heights.now s.args.apart.now c.before.before.before.before.mark_base.ensures,
             ),
           ),
         ),
@@ -40,14 +40,14 @@ expand-requires c κs = let s = c.before.before.before.before.before.before.befo
       (p.0.0.terms, p.1.0.homes_are),
       (
         class_set s.args.n s.args.m s.args.classes.now s.args.heights.now s.args.homes.now s.args.points.now s.args.reads.now s.args.read-heights.now s.args.leads.now s.args.left-classes.now s.args.left-heights.now s.args.right-classes.now s.args.right-heights.now s.args.apart.now
-            p.0.0.terms p.0.0.sides p.1.0.homes_are p.1.0.points_are p.1.0.leads_are c.before.before.before.before.before.before.before.before.mark-base.ensures c.before.before.before.settle.ensures,
+            p.0.0.terms p.0.0.sides p.1.0.homes_are p.1.0.points_are p.1.0.leads_are c.before.before.before.before.before.before.before.before.mark_base.ensures c.before.before.before.settle.ensures,
         (
           home_columns s.args.n s.args.m s.args.classes.now s.args.heights.now s.args.homes.now s.args.points.now s.args.reads.now s.args.read-heights.now s.args.leads.now s.args.left-classes.now s.args.left-heights.now s.args.right-classes.now s.args.right-heights.now s.args.apart.now
-              p.0.0.terms p.0.0.sides p.1.0.homes_are p.1.0.points_are p.1.0.leads_are c.before.before.before.before.before.before.before.before.mark-base.ensures c.before.before.before.settle.ensures,
+              p.0.0.terms p.0.0.sides p.1.0.homes_are p.1.0.points_are p.1.0.leads_are c.before.before.before.before.before.before.before.before.mark_base.ensures c.before.before.before.settle.ensures,
           omega (
             arith,
             c.before.before.before.settle.ensures.grows.long,
-            room_based s.args.n s.args.m s.args.points.now s.args.heights.now s.args.left-classes.now s.args.left-heights.now s.args.right-classes.now s.args.right-heights.now s.args.apart.now s.args.pairs.now c.before.before.before.before.before.before.before.before.mark-base.ensures p.0.1,
+            room_based s.args.n s.args.m s.args.points.now s.args.heights.now s.args.left-classes.now s.args.left-heights.now s.args.right-classes.now s.args.right-heights.now s.args.apart.now s.args.pairs.now c.before.before.before.before.before.before.before.before.mark_base.ensures p.0.1,
           ),
         ),
       ),
@@ -57,10 +57,10 @@ returns : tie.Need-returns
 returns c = let s = c.before.before.before.before.before.before.before.before.before.before.before.before.before.before.before.before.before.before.before.before.before.before.before.before.before.before.before.before.before.before.before.before.before.before.before.args in
     let p = c.before.before.before.before.before.before.before.before.before.before.before.before.before.before.before.before.before.before.before.before.before.before.before.before.before.before.before.before.before.before.before.before.before.before.before.requires in
     table_told s.n s.m s.classes.now s.heights.now s.homes.now s.points.now s.reads.now s.read-heights.now s.leads.now s.left-classes.now s.left-heights.now s.right-classes.now s.right-heights.now s.apart.now
-    p.0.0.terms p.0.0.sides p.1.0.homes_are p.1.0.points_are p.1.0.leads_are c.before.before.before.before.before.before.before.before.before.before.before.mark-base.ensures c.before.before.before.before.before.before.settle.ensures c.before.before.expand.ensures
+    p.0.0.terms p.0.0.sides p.1.0.homes_are p.1.0.points_are p.1.0.leads_are c.before.before.before.before.before.before.before.before.before.before.before.mark_base.ensures c.before.before.before.before.before.before.settle.ensures c.before.before.expand.ensures
 
-pub fill-table-spec : {M : Type 1} → statement M
-fill-table-spec =
+pub fill_table_spec : {M : Type 1} → statement M
+fill_table_spec =
     tie.close
     (tie.spec
     (λ c κs. search rules)

@@ -5,17 +5,17 @@ use borrow.Author.Rules.{rules}
 use Rattle.differences.proofs.note_readers.Statement.{statement}
 use Rattle.differences.proofs.note_readers.Tie as tie
 
-abbrev invariant-loop : tie.invariant-loop
+abbrev invariant-loop : tie.invariant-loop-k
 invariant-loop count leads homes notes₀ k₀ notes k = 0 ≤ k
 
-abbrev decreases-loop : tie.decreases-loop
+abbrev decreases-loop : tie.decreases-loop-k
 decreases-loop count leads homes notes₀ k₀ notes k = count - k
 
-linked-requires : tie.Need-linked-requires invariant-loop decreases-loop
-linked-requires c κs = omega (arith, c.before.before.before.before.requires, c.loop-test.true)
+linked-requires : tie.Need-linked-x-requires invariant-loop decreases-loop
+linked-requires c κs = omega (arith, c.before.before.before.before.requires, c.loop-k-test.true)
 
-pub note-readers-spec : {M : Type 1} → statement M
-note-readers-spec =
+pub note_readers_spec : {M : Type 1} → statement M
+note_readers_spec =
     tie.close
     (tie.spec
     invariant-loop

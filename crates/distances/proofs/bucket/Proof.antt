@@ -8,8 +8,8 @@ returns : tie.Need-returns
 unfolding bucket_of_distance
 returns c = (refl, omega arith)
 
-pub bucket-spec : {M : Type 1} → statement M
-bucket-spec =
+pub bucket_spec : {M : Type 1} → statement M
+bucket_spec =
     tie.close
     (tie.spec
     (λ c. search rules)

@@ -4,10 +4,10 @@ use Rattle.distances.proofs.is_before.Statement.{statement}
 use Rattle.distances.proofs.is_before.Tie as tie
 
 returns : tie.Need-returns
-returns c = rw (c.before.before.linked.ensures, c.linked2.ensures, c.before.before.before.index.ensures, c.before.index2.ensures) refl
+returns c = rw (c.before.before.linked-low.ensures, c.linked-high.ensures, c.before.before.before.index.ensures, c.before.index-2.ensures) refl
 
-pub is-before-spec : {M : Type 1} → statement M
-is-before-spec =
+pub is_before_spec : {M : Type 1} → statement M
+is_before_spec =
     tie.close
     (tie.spec
     (λ c κs. search rules)

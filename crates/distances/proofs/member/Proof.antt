@@ -6,14 +6,14 @@ use Rattle.distances.specs.Placing.{get_d_any}
 use Rattle.distances.proofs.member.Statement.{statement}
 use Rattle.distances.proofs.member.Tie as tie
 
-returns : tie.Need-returns
-returns c = let s = c.before.before.before.before.before.before.before in rw (c.linked.ensures, c.before.before.sum.ensures, c.before.before.before.before.index.ensures) (get_d_any s.args.order.now (get_or s.args.from.now s.args.a 0 + s.args.rank) 0 most (omega (arith, c.before.if1.true, rw c.before.before.before.before.index.ensures at c.before.before.sum.ensures)))
+returns : tie.Need-returns-then-k-order
+returns c = let s = c.before.before.before.before.before.before.before in rw (c.linked.ensures, c.before.before.sum-k.ensures, c.before.before.before.before.index.ensures) (get_d_any s.args.order.now (get_or s.args.from.now s.args.a 0 + s.args.rank) 0 most (omega (arith, c.before.if-k-order.true, rw c.before.before.before.before.index.ensures at c.before.before.sum-k.ensures)))
 
-returns-2 : tie.Need-returns-2
-returns-2 c = sym (get_or-eq_default c.before.before.before.before.before.before.args.order.now most (omega (arith, c.if1.false, rw c.before.before.before.index.ensures at c.before.sum.ensures)))
+returns-2 : tie.Need-returns
+returns-2 c = sym (get_or-eq_default c.before.before.before.before.before.before.args.order.now most (omega (arith, c.if-k-order.false, rw c.before.before.before.index.ensures at c.before.sum-k.ensures)))
 
-pub member-spec : {M : Type 1} → statement M
-member-spec =
+pub member_spec : {M : Type 1} → statement M
+member_spec =
     tie.close
     (tie.spec
     (λ c κs. search rules)

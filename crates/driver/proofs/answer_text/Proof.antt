@@ -7,29 +7,29 @@ use Rattle.driver.specs.Answering.{refused_frames, accepted_tables, accepted_fra
 use Rattle.driver.proofs.answer_text.Statement.{statement}
 use Rattle.driver.proofs.answer_text.Tie as tie
 
-put-refusal-requires : tie.Need-put-refusal-requires
-put-refusal-requires c κs = omega (arith, refusal_size c.before.before.fault.given.0.0, c.before.before.before.before.before.before.before.before.before.before.before.before.before.requires)
+put-refusal-requires : tie.Need-put_refusal-requires
+put-refusal-requires c κs = omega (arith, refusal_size c.before.before.fault-1.given.0.0, c.before.before.before.before.before.before.before.before.before.before.before.before.before.requires)
 
-answer-set-requires : tie.Need-answer-set-requires
+answer-set-requires : tie.Need-answer_set-requires
 answer-set-requires c κs =
     let s = c.before.before.before.before.before.before.before.before.before.before.before.before.before.before.before.before in
     let k = c.before.before.before.before.before.before.before.before.before.before.read in
-    (accepted_tables s.args.text.now _ k.result _ k.ensures _ c.before.before.before.before.before.counts.given.1, s.requires)
+    (accepted_tables s.args.text.now _ k.result _ k.ensures _ c.before.before.before.before.before.counts-1.given.1, s.requires)
 
-returns : tie.Need-returns
+returns : tie.Need-returns-in-Refused
 returns c =
     let s = c.before.before.before.before.before.before.before.before.before.before.before.before.before.before.before.before in
     let k = c.before.before.before.before.before.before.before.before.before.before.read in
-    rw (refused_frames s.args.text.now _ k.result _ k.ensures refl _ c.before.before.before.before.before.fault.given.1) c.before.before.put-refusal.ensures
+    rw (refused_frames s.args.text.now _ k.result _ k.ensures refl _ c.before.before.before.before.before.fault-1.given.1) c.before.before.put_refusal.ensures
 
-returns-2 : tie.Need-returns-2
+returns-2 : tie.Need-returns-in-Accepted
 returns-2 c =
     let s = c.before.before.before.before.before.before.before.before.before.before.before.before.before.before.before.before.before.before.before in
     let k = c.before.before.before.before.before.before.before.before.before.before.before.before.before.read in
-    rw (accepted_frames s.args.text.now _ k.result _ k.ensures _ c.before.before.before.before.before.before.before.before.counts.given.1) c.before.before.answer-set.ensures
+    rw (accepted_frames s.args.text.now _ k.result _ k.ensures _ c.before.before.before.before.before.before.before.before.counts-1.given.1) c.before.before.answer_set.ensures
 
-pub answer-text-spec : {M : Type 1} → statement M
-answer-text-spec =
+pub answer_text_spec : {M : Type 1} → statement M
+answer_text_spec =
     tie.close
     (tie.spec
     (λ c. search rules)

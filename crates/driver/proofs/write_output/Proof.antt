@@ -7,19 +7,19 @@ use borrow.Author.Rules.{rules}
 use Rattle.driver.proofs.write_output.Statement.{statement}
 use Rattle.driver.proofs.write_output.Tie as tie
 
-returns : tie.Need-returns
-returns c = writes_nothing _ _ (omega (arith, c.if1.true))
+returns : tie.Need-returns-then-out-lt-LARGEST
+returns c = writes_nothing _ _ (omega (arith, c.if-out-lt-LARGEST.true))
 
-returns-2 : tie.Need-returns-2
+returns-2 : tie.Need-returns-then-text-lt-JUDGED
 returns-2 c = let s = c.before.before.before.before.before.before.before.before in
-    writes_all s.args.text.now s.args.out.now (omega (arith, c.before.before.before.before.before.if1.false)) s.args.text.now (sym (take_all 32768 s.args.text.now (omega (arith, c.before.before.before.before.if2.true)))) _ _ c.before.before.answer-text.ensures
+    writes_all s.args.text.now s.args.out.now (omega (arith, c.before.before.before.before.before.if-out-lt-LARGEST.false)) s.args.text.now (sym (take_all 32768 s.args.text.now (omega (arith, c.before.before.before.before.if-text-lt-JUDGED.true)))) _ _ c.before.before.answer_text.ensures
 
-returns-3 : tie.Need-returns-3
+returns-3 : tie.Need-returns
 returns-3 c = let s = c.before.before.before.before.before.before.before.before.before in
-    writes_all s.args.text.now s.args.out.now (omega (arith, c.before.before.before.before.before.before.if1.false)) _ refl _ _ c.before.before.answer-text2.ensures
+    writes_all s.args.text.now s.args.out.now (omega (arith, c.before.before.before.before.before.before.if-out-lt-LARGEST.false)) _ refl _ _ c.before.before.answer_text-2.ensures
 
-pub write-output-spec : {M : Type 1} → statement M
-write-output-spec =
+pub write_output_spec : {M : Type 1} → statement M
+write_output_spec =
     tie.close
     (tie.spec
     returns

@@ -8,30 +8,30 @@ use Rattle.expansion.specs.Expand.{AllOwn, own_more, own_none}
 use Rattle.expansion.proofs.all_own.Statement.{statement}
 use Rattle.expansion.proofs.all_own.Tie as tie
 
-abbrev invariant-loop : tie.invariant-loop
+abbrev invariant-loop : tie.invariant-loop-t
 invariant-loop n homes t₀ t = (t ≤ n) × AllOwn t homes
 
-abbrev decreases-loop : tie.decreases-loop
+abbrev decreases-loop : tie.decreases-loop-t
 decreases-loop n homes t₀ t = n - t
 
-loop-holds : tie.Need-loop-init invariant-loop decreases-loop
+loop-holds : tie.Need-loop-t-init invariant-loop decreases-loop
 loop-holds c = (omega arith, own_none c.before.args.homes.now)
 
-loop-again : tie.Need-loop-preserved invariant-loop decreases-loop
-loop-again c = (omega (arith, c.before.before.before.loop-test.true), own_more (omega (arith, c.if1.false, c.before.index.ensures)) c.before.before.before.before.loop.invariant.1)
+loop-again : tie.Need-loop-t-preserved invariant-loop decreases-loop
+loop-again c = (omega (arith, c.before.before.before.loop-t-test.true), own_more (omega (arith, c.if-index-t.false, c.before.index.ensures)) c.before.before.before.before.loop-t.invariant.1)
 
-returns-2 : tie.Need-returns-2 invariant-loop decreases-loop
-returns-2 c e = let i = c.before.loop.invariant in record { own = λ t h. i.1.own t (omega (arith, c.loop-test.false)) }
+returns-2 : tie.Need-returns invariant-loop decreases-loop
+returns-2 c e = let i = c.before.loop-t.invariant in record { own = λ t h. i.1.own t (omega (arith, c.loop-t-test.false)) }
 
-pub all-own-spec : {M : Type 1} → statement M
-all-own-spec =
+pub all_own_spec : {M : Type 1} → statement M
+all_own_spec =
     tie.close
     (tie.spec
     invariant-loop
     decreases-loop
     loop-holds
     (λ c. search rules)
-    (λ c. omega (arith, c.before.loop-test.true, c.before.before.before.before.requires))
+    (λ c. omega (arith, c.before.loop-t-test.true, c.before.before.before.before.requires))
     (λ c κs. search rules)
     (λ c e. false_true refl e)
     (λ c. omega arith)

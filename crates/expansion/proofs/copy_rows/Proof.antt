@@ -8,53 +8,53 @@ use borrow.Author.Rules.{rules}
 use Rattle.expansion.proofs.copy_rows.Statement.{statement}
 use Rattle.expansion.proofs.copy_rows.Tie as tie
 
-abbrev invariant-loop : tie.invariant-loop
+abbrev invariant-loop : tie.invariant-loop-i
 invariant-loop n homes table₀ i₀ table i = ExpandedIn n homes (GuestRows homes i) table₀ table
 
-abbrev decreases-loop : tie.decreases-loop
+abbrev decreases-loop : tie.decreases-loop-i
 decreases-loop n homes table₀ i₀ table i = n - i
 
-loop-holds : tie.Need-loop-init invariant-loop decreases-loop
+loop-holds : tie.Need-loop-i-init invariant-loop decreases-loop
 loop-holds c = let s = c.before.before in let a = s.args in let p = s.requires in guests_start a.n a.homes.now p.1.0 a.table.now
 
-mul-index : tie.Need-overflow-mul-index invariant-loop decreases-loop
+mul-index : tie.Need-offset_bounds-homes-i invariant-loop decreases-loop
 mul-index c = search rules
 
-shared-slice-read-index : tie.Need-shared-slice-read-index invariant-loop decreases-loop
-shared-slice-read-index c = let s = c.before.before.before.before.before in let a = s.args in let p = s.requires in omega (arith, p.1.0.long, c.before.loop-test.true)
+shared-slice-read-index : tie.Need-bounds-homes-i invariant-loop decreases-loop
+shared-slice-read-index c = let s = c.before.before.before.before.before in let a = s.args in let p = s.requires in omega (arith, p.1.0.long, c.before.loop-i-test.true)
 
-index-requires : tie.Need-index-requires invariant-loop decreases-loop
+index-requires : tie.Need-index-h-requires invariant-loop decreases-loop
 index-requires c κs = search rules
 
-add-i : tie.Need-overflow-add-i invariant-loop decreases-loop
+add-i : tie.Need-overflow_step-i invariant-loop decreases-loop
 add-i c = omega arith
 
-loop-less : tie.Need-loop-smaller invariant-loop decreases-loop
-loop-less c = omega (arith, c.before.before.before.loop-test.true)
+loop-less : tie.Need-loop-i-smaller-then-h-i invariant-loop decreases-loop
+loop-less c = omega (arith, c.before.before.before.loop-i-test.true)
 
-loop-again : tie.Need-loop-preserved invariant-loop decreases-loop
-loop-again c = let s = c.before.before.before.before.before.before.before in let a = s.args in let p = s.requires in guests_skip a.n a.homes.now p.1.0 c.before.before.before.before.loop.i (rw c.before.index.ensures at c.if1.true) c.before.before.before.before.loop.invariant
+loop-again : tie.Need-loop-i-preserved-then-h-i invariant-loop decreases-loop
+loop-again c = let s = c.before.before.before.before.before.before.before in let a = s.args in let p = s.requires in guests_skip a.n a.homes.now p.1.0 c.before.before.before.before.loop-i.i (rw c.before.index-h.ensures at c.if-h-i.true) c.before.before.before.before.loop-i.invariant
 
-copy-row-requires : tie.Need-copy-row-requires invariant-loop decreases-loop
-copy-row-requires c κs = let s = c.before.before.before.before.before.before.before.before in let a = s.args in let p = s.requires in (record { few = p.0; left = omega (arith, c.before.before.index.ensures, p.1.0.below c.before.before.before.before.before.loop.i c.before.before.before.before.loop-test.true); right = c.before.before.before.before.loop-test.true }, ((λ e. c.before.if1.false (sym e)), room_kept a.n c.before.before.before.before.before.loop.invariant p.1.1.1))
+copy-row-requires : tie.Need-copy_row-requires invariant-loop decreases-loop
+copy-row-requires c κs = let s = c.before.before.before.before.before.before.before.before in let a = s.args in let p = s.requires in (record { few = p.0; left = omega (arith, c.before.before.index-h.ensures, p.1.0.below c.before.before.before.before.before.loop-i.i c.before.before.before.before.loop-i-test.true); right = c.before.before.before.before.loop-i-test.true }, ((λ e. c.before.if-h-i.false (sym e)), room_kept a.n c.before.before.before.before.before.loop-i.invariant p.1.1.1))
 
-add-i-2 : tie.Need-overflow-add-i-2 invariant-loop decreases-loop
+add-i-2 : tie.Need-overflow_step-i-in-loop-i invariant-loop decreases-loop
 add-i-2 c = omega arith
 
-loop-less-2 : tie.Need-loop-smaller-2 invariant-loop decreases-loop
-loop-less-2 c = omega (arith, c.before.before.before.before.before.before.before.loop-test.true)
+loop-less-2 : tie.Need-loop-i-smaller invariant-loop decreases-loop
+loop-less-2 c = omega (arith, c.before.before.before.before.before.before.before.loop-i-test.true)
 
-loop-again-2 : tie.Need-loop-preserved-2 invariant-loop decreases-loop
-loop-again-2 c = let s = c.before.before.before.before.before.before.before.before.before.before.before in let a = s.args in let p = s.requires in guests_more a.n a.homes.now p.1.0 c.before.before.before.before.before.before.before.before.loop.i c.before.before.before.before.before.before.before.loop-test.true (rw c.before.before.before.before.before.index.ensures at c.before.before.before.before.if1.false) p.1.1.0 c.before.before.before.before.before.before.before.before.loop.invariant (rw c.before.before.before.before.before.index.ensures at c.before.before.copy-row.ensures)
+loop-again-2 : tie.Need-loop-i-preserved invariant-loop decreases-loop
+loop-again-2 c = let s = c.before.before.before.before.before.before.before.before.before.before.before in let a = s.args in let p = s.requires in guests_more a.n a.homes.now p.1.0 c.before.before.before.before.before.before.before.before.loop-i.i c.before.before.before.before.before.before.before.loop-i-test.true (rw c.before.before.before.before.before.index-h.ensures at c.before.before.before.before.if-h-i.false) p.1.1.0 c.before.before.before.before.before.before.before.before.loop-i.invariant (rw c.before.before.before.before.before.index-h.ensures at c.before.before.copy_row.ensures)
 
-same_length : tie.Need-same-length invariant-loop decreases-loop
-same_length c = c.before.loop.invariant.long
+same_length : tie.Need-shape_of-table invariant-loop decreases-loop
+same_length c = c.before.loop-i.invariant.long
 
 returns : tie.Need-returns invariant-loop decreases-loop
-returns c = let s = c.before.before.before.before in let a = s.args in let p = s.requires in guests_done a.n a.homes.now p.1.0 c.before.loop.i c.loop-test.false c.before.loop.invariant
+returns c = let s = c.before.before.before.before in let a = s.args in let p = s.requires in guests_done a.n a.homes.now p.1.0 c.before.loop-i.i c.loop-i-test.false c.before.loop-i.invariant
 
-pub copy-rows-spec : {M : Type 1} → statement M
-copy-rows-spec =
+pub copy_rows_spec : {M : Type 1} → statement M
+copy_rows_spec =
     tie.close
     (tie.spec
     invariant-loop

@@ -6,35 +6,35 @@ use Rattle.expansion.specs.Expand.{WordLoop, word_done, word_first, word_next}
 use Rattle.expansion.proofs.expand_word.Statement.{statement}
 use Rattle.expansion.proofs.expand_word.Tie as tie
 
-abbrev invariant-loop : tie.invariant-loop
+abbrev invariant-loop : tie.invariant-loop-b
 invariant-loop n i w word homes first next table₀ end b₀ table b = WordLoop n homes i.0 w word b table₀ table
 
-abbrev decreases-loop : tie.decreases-loop
+abbrev decreases-loop : tie.decreases-loop-b
 decreases-loop n i w word homes first next table₀ end b₀ table b = 64 - b
 
-set-guests-requires : tie.Need-set-guests-requires invariant-loop decreases-loop
+set-guests-requires : tie.Need-set_guests-requires invariant-loop decreases-loop
 set-guests-requires c κs = let s = c.before.before.before.before.before.before.before.before.before in
     let p = s.requires in
-    (record { few = p.0.few; left = p.0.left; right = omega (arith, c.before.loop-test.true, c.before.before.before.before.width.ensures.below) }, (p.1.1.0, room_kept s.args.n c.before.before.loop.invariant.done p.1.1.1))
+    (record { few = p.0.few; left = p.0.left; right = omega (arith, c.before.loop-b-test.true, c.before.before.before.before.width-end.ensures.below) }, (p.1.1.0, room_kept s.args.n c.before.before.loop-b.invariant.done p.1.1.1))
 
-loop-again : tie.Need-loop-preserved invariant-loop decreases-loop
-loop-again c = let a = c.before.before.before.before.before.before.before.before.before.before.before.before.before.args in word_next a.n a.homes.now (omega (arith, c.before.before.before.before.before.loop-test.true, c.before.before.before.before.before.before.before.before.width.ensures.few)) c.before.before.before.before.before.before.loop.invariant c.before.before.before.set-guests.ensures c.next-one2.ensures
+loop-again : tie.Need-loop-b-preserved invariant-loop decreases-loop
+loop-again c = let a = c.before.before.before.before.before.before.before.before.before.before.before.before.before.args in word_next a.n a.homes.now (omega (arith, c.before.before.before.before.before.loop-b-test.true, c.before.before.before.before.before.before.before.before.width-end.ensures.few)) c.before.before.before.before.before.before.loop-b.invariant c.before.before.before.set_guests.ensures c.next_one-b-in-loop-b.ensures
 
-pub expand-word-spec : {M : Type 1} → statement M
-expand-word-spec =
+pub expand_word_spec : {M : Type 1} → statement M
+expand_word_spec =
     tie.close
     (tie.spec
     invariant-loop
     decreases-loop
     (λ c κs. c.before.before.before.before.requires.0.right)
     (λ c κs. omega arith)
-    (λ c. let a = c.before.before.before.before.before.before.args in word_first a.n a.homes.now a.table.now c.next_one.ensures)
+    (λ c. let a = c.before.before.before.before.before.before.args in word_first a.n a.homes.now a.table.now c.next_one-b.ensures)
     (λ c. omega (arith, c.before.before.before.before.before.before.before.before.requires.0.right, c.before.before.before.before.before.before.before.before.requires.0.few))
-    (λ c. omega (arith, c.before.before.before.before.before.before.before.before.requires.0.right, c.before.before.before.before.before.before.before.before.requires.0.few, c.loop-test.true, c.before.before.before.width.ensures.few))
+    (λ c. omega (arith, c.before.before.before.before.before.before.before.before.requires.0.right, c.before.before.before.before.before.before.before.before.requires.0.few, c.loop-b-test.true, c.before.before.before.width-end.ensures.few))
     set-guests-requires
-    (λ c. omega (arith, c.before.before.before.before.loop-test.true, c.before.before.before.before.before.before.before.width.ensures.few))
+    (λ c. omega (arith, c.before.before.before.before.loop-b-test.true, c.before.before.before.before.before.before.before.width-end.ensures.few))
     (λ c κs. omega (arith, c.before.before.before.before.loop-test.true, c.before.before.before.before.before.before.before.width.ensures.few))
-    (λ c. omega (arith, c.before.before.before.before.before.loop-test.true, c.before.before.before.before.before.before.before.before.width.ensures.few, c.next-one2.ensures.after))
+    (λ c. omega (arith, c.before.before.before.before.before.loop-b-test.true, c.before.before.before.before.before.before.before.before.width-end.ensures.few, c.next_one-b-in-loop-b.ensures.after))
     loop-again
-    (λ c. c.before.loop.invariant.done.long)
-    (λ c. let s = c.before.before.before.before.before.before.before.before in word_done s.args.n s.args.homes.now s.requires.1.0 c.before.before.before.width.ensures c.loop-test.false c.before.loop.invariant))
+    (λ c. c.before.loop-b.invariant.done.long)
+    (λ c. let s = c.before.before.before.before.before.before.before.before in word_done s.args.n s.args.homes.now s.requires.1.0 c.before.before.before.width-end.ensures c.loop-b-test.false c.before.loop-b.invariant))

@@ -7,53 +7,53 @@ use borrow.Author.Rules.{rules}
 use Rattle.expansion.proofs.mark_hosts.Statement.{statement}
 use Rattle.expansion.proofs.mark_hosts.Tie as tie
 
-abbrev invariant-loop : tie.invariant-loop
+abbrev invariant-loop : tie.invariant-loop-t
 invariant-loop n homes hosts₀ t₀ hosts t = Hosts t homes hosts
 
-abbrev decreases-loop : tie.decreases-loop
+abbrev decreases-loop : tie.decreases-loop-t
 decreases-loop n homes hosts₀ t₀ hosts t = n - t
 
-loop-holds : tie.Need-loop-init invariant-loop decreases-loop
+loop-holds : tie.Need-loop-t-init invariant-loop decreases-loop
 loop-holds c = hosts_none c.before.before.requires.1.1
 
-mul-index : tie.Need-overflow-mul-index invariant-loop decreases-loop
+mul-index : tie.Need-offset_bounds-homes-t invariant-loop decreases-loop
 mul-index c = search rules
 
-shared-slice-read-index : tie.Need-shared-slice-read-index invariant-loop decreases-loop
-shared-slice-read-index c = omega (arith, c.before.before.before.before.before.requires.1.0.long, c.before.loop-test.true)
+shared-slice-read-index : tie.Need-bounds-homes-t invariant-loop decreases-loop
+shared-slice-read-index c = omega (arith, c.before.before.before.before.before.requires.1.0.long, c.before.loop-t-test.true)
 
-index-requires : tie.Need-index-requires invariant-loop decreases-loop
+index-requires : tie.Need-index-h-requires invariant-loop decreases-loop
 index-requires c κs = search rules
 
-add-t : tie.Need-overflow-add-t invariant-loop decreases-loop
+add-t : tie.Need-overflow_step-t invariant-loop decreases-loop
 add-t c = omega arith
 
-loop-less : tie.Need-loop-smaller invariant-loop decreases-loop
-loop-less c = omega (arith, c.before.before.before.loop-test.true)
+loop-less : tie.Need-loop-t-smaller-then-h-t invariant-loop decreases-loop
+loop-less c = omega (arith, c.before.before.before.loop-t-test.true)
 
-loop-again : tie.Need-loop-preserved invariant-loop decreases-loop
-loop-again c = hosts_skip (rw c.before.index.ensures at c.if1.true) c.before.before.before.before.loop.invariant
+loop-again : tie.Need-loop-t-preserved-then-h-t invariant-loop decreases-loop
+loop-again c = hosts_skip (rw c.before.index-h.ensures at c.if-h-t.true) c.before.before.before.before.loop-t.invariant
 
 put-requires : tie.Need-put-requires invariant-loop decreases-loop
-put-requires c κs = let s = c.before.before.before.before.before.before.before.before in omega (arith, c.before.before.index.ensures, s.requires.1.0.below c.before.before.before.before.before.loop.t c.before.before.before.before.loop-test.true, s.requires.0, c.before.before.before.before.before.loop.invariant.long)
+put-requires c κs = let s = c.before.before.before.before.before.before.before.before in omega (arith, c.before.before.index-h.ensures, s.requires.1.0.below c.before.before.before.before.before.loop-t.t c.before.before.before.before.loop-t-test.true, s.requires.0, c.before.before.before.before.before.loop-t.invariant.long)
 
-add-t-2 : tie.Need-overflow-add-t-2 invariant-loop decreases-loop
+add-t-2 : tie.Need-overflow_step-t-in-loop-t invariant-loop decreases-loop
 add-t-2 c = omega arith
 
-loop-less-2 : tie.Need-loop-smaller-2 invariant-loop decreases-loop
-loop-less-2 c = omega (arith, c.before.before.before.before.before.before.before.loop-test.true)
+loop-less-2 : tie.Need-loop-t-smaller invariant-loop decreases-loop
+loop-less-2 c = omega (arith, c.before.before.before.before.before.before.before.loop-t-test.true)
 
-loop-again-2 : tie.Need-loop-preserved-2 invariant-loop decreases-loop
-loop-again-2 c = hosts_more (rw c.before.before.before.before.before.index.ensures at c.before.before.put.ensures) c.before.before.before.before.before.before.before.before.loop.invariant
+loop-again-2 : tie.Need-loop-t-preserved invariant-loop decreases-loop
+loop-again-2 c = hosts_more (rw c.before.before.before.before.before.index-h.ensures at c.before.before.put.ensures) c.before.before.before.before.before.before.before.before.loop-t.invariant
 
-same_length : tie.Need-same-length invariant-loop decreases-loop
-same_length c = let s = c.before.before.before.before in omega (arith, c.before.loop.invariant.long, s.requires.1.1)
+same_length : tie.Need-shape_of-hosts invariant-loop decreases-loop
+same_length c = let s = c.before.before.before.before in omega (arith, c.before.loop-t.invariant.long, s.requires.1.1)
 
 returns : tie.Need-returns invariant-loop decreases-loop
-returns c = hosts_done c.loop-test.false c.before.loop.invariant
+returns c = hosts_done c.loop-t-test.false c.before.loop-t.invariant
 
-pub mark-hosts-spec : {M : Type 1} → statement M
-mark-hosts-spec =
+pub mark_hosts_spec : {M : Type 1} → statement M
+mark_hosts_spec =
     tie.close
     (tie.spec
     invariant-loop

@@ -8,32 +8,32 @@ use Rattle.hexadecimal.specs.Hex.{spelled_value, spelled_bad, digit_below}
 use Rattle.hexadecimal.proofs.byte.Statement.{statement}
 use Rattle.hexadecimal.proofs.byte.Tie as tie
 
-returns : tie.Need-returns
+returns : tie.Need-returns-in_default
 returns c =
-    rw (spelled_bad (digit c.before.before.before.args.high) (sym c.before.before.digit.ensures ∙ c.enum_told.given.1))
+    rw (spelled_bad (digit c.before.before.before.args.high) (sym c.before.before.digit.ensures ∙ c.enum_told-1.given.1))
 
-high_value : (c : tie.After-known-told) → digit c.before.before.before.before.args.high ≡ some c.before.h.given.0.0
-high_value c = spelled_value _ _ (sym c.before.before.before.digit.ensures ∙ c.before.h.given.1)
+high_value : (c : tie.In-Value) → digit c.before.before.before.before.args.high ≡ some c.before.h.given.0.0
+high_value c = spelled_value _ _ (sym c.before.before.before.digit.ensures ∙ c.before.h-1.given.1)
 
-low_value : (c : tie.After-known-told2) → digit c.before.before.before.before.before.before.before.before.args.low ≡ some c.before.l.given.0.0
-low_value c = spelled_value _ _ (sym c.before.before.before.digit2.ensures ∙ c.before.l.given.1)
+low_value : (c : tie.In-Value-digit) → digit c.before.before.before.before.before.before.before.before.args.low ≡ some c.before.l.given.0.0
+low_value c = spelled_value _ _ (sym c.before.before.before.digit-2.ensures ∙ c.before.l-1.given.1)
 
-returns-2 : tie.Need-returns-2
+returns-2 : tie.Need-returns-in_default-digit
 returns-2 c =
-    let low = spelled_bad (digit c.before.before.before.before.before.before.before.args.low) (sym c.before.before.digit2.ensures ∙ c.enum-told2.given.1) in
+    let low = spelled_bad (digit c.before.before.before.before.before.before.before.args.low) (sym c.before.before.digit-2.ensures ∙ c.enum_told-in_default-digit-1.given.1) in
     rw (high_value c.before.before.before, low)
 
-mul-t7 : tie.Need-overflow-mul-t7
+mul-t7 : tie.Need-overflow_mul-result
 mul-t7 c = omega (arith, digit_below _ _ (high_value c.before.before.before.before))
 
-add-t8 : tie.Need-overflow-add-t8
+add-t8 : tie.Need-overflow_add-result
 add-t8 c = omega (arith, digit_below _ _ (high_value c.before.before.before.before), digit_below _ _ (low_value c))
 
-returns-3 : tie.Need-returns-3
+returns-3 : tie.Need-returns
 returns-3 c = rw (high_value c.before.before.before.before, low_value c)
 
-pub byte-spec : {M : Type 1} → statement M
-byte-spec =
+pub byte_spec : {M : Type 1} → statement M
+byte_spec =
     tie.close
     (tie.spec
     (λ c κs. search rules)

@@ -9,41 +9,41 @@ use Rattle.hexadecimal.specs.Hex.{prefixed, prefixed_nil, decode_all, decode_non
 use Rattle.hexadecimal.proofs.decode.Statement.{statement}
 use Rattle.hexadecimal.proofs.decode.Tie as tie
 
-abbrev invariant-loop : tie.invariant-loop
+abbrev invariant-loop : tie.invariant-loop-k
 invariant-loop line bytes₀ size k₀ bytes k =
     (k ≤ length line / 2) × (length bytes ≡ length bytes₀) × (bytes_of line ≡ prefixed (take k bytes) (bytes_of (drop (2 * k) line)))
 
-abbrev decreases-loop : tie.decreases-loop
+abbrev decreases-loop : tie.decreases-loop-k
 decreases-loop line bytes₀ size k₀ bytes k = length line / 2 - k
 
-returns : tie.Need-returns invariant-loop decreases-loop
+returns : tie.Need-returns-then-size-line invariant-loop decreases-loop
 returns c = let l = c.before.before.before.args.line.now in bytes_of_odd (length l / 2) l (omega arith)
 
-loop-holds : tie.Need-loop-init invariant-loop decreases-loop
+loop-holds : tie.Need-loop-k-init invariant-loop decreases-loop
 loop-holds c = (omega arith, refl, prefixed_nil _)
 
-returns-2 : tie.Need-returns-2 invariant-loop decreases-loop
+returns-2 : tie.Need-returns-in_default invariant-loop decreases-loop
 returns-2 c =
-    let l = c.before.before.before.before.before.before.loop in
-    decode_none _ l.bytes l.k l.invariant.2 (omega arith) (sym c.before.before.byte.ensures ∙ c.enum_told.given.1)
+    let l = c.before.before.before.before.before.before.loop-k in
+    decode_none _ l.bytes l.k l.invariant.2 (omega arith) (sym c.before.before.byte.ensures ∙ c.enum_told-1.given.1)
 
-loop-again : tie.Need-loop-preserved invariant-loop decreases-loop
+loop-again : tie.Need-loop-k-preserved invariant-loop decreases-loop
 loop-again c =
-    let l = c.before.before.before.before.before.before.before.loop in (
+    let l = c.before.before.before.before.before.before.before.loop-k in (
       omega arith,
       search rules,
-      decode_more _ l.bytes l.k l.invariant.2 (omega arith) _ (sym c.before.before.before.byte.ensures ∙ c.before.b.given.1) (omega arith),
+      decode_more _ l.bytes l.k l.invariant.2 (omega arith) _ (sym c.before.before.before.byte.ensures ∙ c.before.b-1.given.1) (omega arith),
     )
 
-returns-3 : tie.Need-returns-3 invariant-loop decreases-loop
+returns-3 : tie.Need-returns invariant-loop decreases-loop
 returns-3 c =
-    let l = c.before.loop in
+    let l = c.before.loop-k in
     let line = c.before.before.before.before.before.args.line.now in
     let e : l.k ≡ length line / 2 = omega arith in
     rw e at (decode_all line l.bytes l.k l.invariant.2 (omega arith))
 
-pub decode-spec : {M : Type 1} → statement M
-decode-spec =
+pub decode_spec : {M : Type 1} → statement M
+decode_spec =
     tie.close
     (tie.spec
     invariant-loop

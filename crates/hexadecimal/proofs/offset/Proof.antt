@@ -10,17 +10,17 @@ use borrow.Author.Rules.{rules}
 use Rattle.hexadecimal.proofs.offset.Statement.{statement}
 use Rattle.hexadecimal.proofs.offset.Tie as tie
 
-sub-result : tie.Need-overflow-sub-result
+sub-result : tie.Need-overflow_sub-result
 sub-result c = let n = c.before.args.bits in rw (less_whole n (omega arith)) (record { sfits = omega arith })
 
-returns : tie.Need-returns
+returns : tie.Need-returns-then-bits-lt2147483648
 returns c = let n = c.before.args.bits in rw (signed_low n (omega arith), lt-ltb n (2 ^ 63) (omega arith))
 
-returns-2 : tie.Need-returns-2
+returns-2 : tie.Need-returns-else-bits-lt2147483648
 returns-2 c =
     let n = c.before.args.bits in
     let e = less_whole n (omega arith) in
     rw (e, to_z-of_z w64 (negsuc (2 ^ 32 - suc n)) (record { sfits = omega arith }), signed_high n (omega arith))
 
-pub offset-spec : {M : Type 1} → statement M
-offset-spec = tie.close (tie.spec (λ c. search rules) (λ c. search rules) sub-result returns returns-2)
+pub offset_spec : {M : Type 1} → statement M
+offset_spec = tie.close (tie.spec (λ c. search rules) (λ c. search rules) sub-result returns returns-2)

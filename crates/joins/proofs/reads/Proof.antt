@@ -7,20 +7,20 @@ use Rattle.joins.specs.Meeting.{does_not, deref_record, reads_by}
 use Rattle.joins.proofs.reads.Statement.{statement}
 use Rattle.joins.proofs.reads.Tie as tie
 
-returns : tie.Need-returns
+returns : tie.Need-returns-then-r-ne-DEREF
 returns c = does_not (unchanged_self c.before.before.before.before.requires.1.0)
 
-address-requires : tie.Need-address-requires
-address-requires c κs = let s = c.before.before.before.before.before.before in deref_record (term_in s.args.terms.now) s.requires.0 s.requires.1.0 s.requires.1.1 c.before.before.before.before.term-at.ensures c.before.before.if1.false
+address-requires : tie.Need-address-other-requires
+address-requires c κs = let s = c.before.before.before.before.before.before in deref_record (term_in s.args.terms.now) s.requires.0 s.requires.1.0 s.requires.1.1 c.before.before.before.before.term_at-r.ensures c.before.before.if-r-ne-DEREF.false
 
-returns-2 : tie.Need-returns-2
-returns-2 c = does_not c.before.before.before.before.before.before.address.ensures.unchanged
+returns-2 : tie.Need-returns-then-at-other
+returns-2 c = does_not c.before.before.before.before.before.before.address-other.ensures.unchanged
 
-returns-3 : tie.Need-returns-3
-returns-3 c = reads_by c.before.before.before.before.before.before.before.before.before.before.before.before.before.before.term-at.ensures c.before.before.before.before.before.before.before.before.before.before.before.before.if1.false c.before.before.before.before.before.before.before.before.before.address.ensures c.before.before.before.if2.false c.is_same.result (rw (to_z-of_z w64 c.before.before.before.before.before.before.before.before.before.before.before.before.before.before.before.before.args.at.offset (sfits_of c.before.before.struct_told.given.1.0.1), to_z-of_z w64 c.before.before.before.before.before.before.before.before.before.address.result.offset (sfits_of c.before.struct-told2.given.1.0.1)) at c.is_same.ensures)
+returns-3 : tie.Need-returns
+returns-3 c = reads_by c.before.before.before.before.before.before.before.before.before.before.before.before.before.before.term_at-r.ensures c.before.before.before.before.before.before.before.before.before.before.before.before.if-r-ne-DEREF.false c.before.before.before.before.before.before.before.before.before.address-other.ensures c.before.before.before.if-at-other.false c.is_same.result (rw (to_z-of_z w64 c.before.before.before.before.before.before.before.before.before.before.before.before.before.before.before.before.args.at.offset (sfits_of c.before.before.struct_told-1.given.1.0.1), to_z-of_z w64 c.before.before.before.before.before.before.before.before.before.address-other.result.offset (sfits_of c.before.struct_told-2-1.given.1.0.1)) at c.is_same.ensures)
 
-pub reads-spec : {M : Type 1} → statement M
-reads-spec =
+pub reads_spec : {M : Type 1} → statement M
+reads_spec =
     tie.close
     (tie.spec
     (λ c κs. search rules)

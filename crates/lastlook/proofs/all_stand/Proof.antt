@@ -13,48 +13,48 @@ use Rattle.lastlook.specs.Order.{Shown, listed, alike_shown, all_stand, not_all}
 use Rattle.lastlook.proofs.all_stand.Statement.{statement}
 use Rattle.lastlook.proofs.all_stand.Tie as tie
 
-abbrev invariant-loop : tie.invariant-loop
+abbrev invariant-loop : tie.invariant-loop-x
 invariant-loop terms representatives offsets readers words count places x₀ x-end x =
     (x ≤ length terms) × ((k : ℕ) → k < x → (term_in terms k).kind ≡ deref_kind → Shown (length terms) (term_in terms) (view representatives offsets) readers words count k)
 
-abbrev decreases-loop : tie.decreases-loop
+abbrev decreases-loop : tie.decreases-loop-x
 decreases-loop terms representatives offsets readers words count places x₀ x-end x = length terms - x
 
-loop-holds : tie.Need-loop-init invariant-loop decreases-loop
+loop-holds : tie.Need-loop-x-init invariant-loop decreases-loop
 loop-holds c = (omega arith, below_none _)
 
-loop-again : tie.Need-loop-preserved invariant-loop decreases-loop
-loop-again c = (omega arith, below_more _ c.before.before.before.loop.x c.before.before.before.loop.invariant.1 (λ d. absurd (eqb-false _ _ (sym c.before.is-deref.ensures ∙ not-true _ c.if1.true) d)))
+loop-again : tie.Need-loop-x-preserved-then-not-is_deref invariant-loop decreases-loop
+loop-again c = (omega arith, below_more _ c.before.before.before.loop-x.x c.before.before.before.loop-x.invariant.1 (λ d. absurd (eqb-false _ _ (sym c.before.is_deref.ensures ∙ not-true _ c.if-not-is_deref.true) d)))
 
-reader-of-requires : tie.Need-reader-of-requires invariant-loop decreases-loop
-reader-of-requires c κs = class_read c.before.before.before.before.before.requires.0 (omega (arith, c.before.before.loop-test.true)) (eqb-true _ _ (sym c.before.is-deref.ensures ∙ not-false _ c.if1.false))
+reader-of-requires : tie.Need-reader_of-reader-requires invariant-loop decreases-loop
+reader-of-requires c κs = class_read c.before.before.before.before.before.requires.0 (omega (arith, c.before.before.loop-x-test.true)) (eqb-true _ _ (sym c.before.is_deref.ensures ∙ not-false _ c.if-not-is_deref.false))
 
-is-alike-requires : tie.Need-is-alike-requires invariant-loop decreases-loop
+is-alike-requires : tie.Need-is_alike-requires invariant-loop decreases-loop
 is-alike-requires c κs =
     let L = c.before.before.before.before.before.before.before.requires.0 in
-    (L.offs_length ∙ sym L.reps_length, omega (arith, L.reps_length, c.before.before.before.before.loop-test.true))
+    (L.offs_length ∙ sym L.reps_length, omega (arith, L.reps_length, c.before.before.before.before.loop-x-test.true))
 
-loop-again-2 : tie.Need-loop-preserved-2 invariant-loop decreases-loop
+loop-again-2 : tie.Need-loop-x-preserved-then-is_alike invariant-loop decreases-loop
 loop-again-2 c =
     let l = c.before.before.before.before.before.before.before in
     let L = l.before.before.requires.0 in
-    (omega (arith, c.before.before.before.before.before.before.loop-test.true), below_more _ l.loop.x l.loop.invariant.1 (λ d. alike_shown L.reps_length c.before.before.before.reader-of.ensures (rw c.if3.true at c.before.is-alike.ensures)))
+    (omega (arith, c.before.before.before.before.before.before.loop-x-test.true), below_more _ l.loop-x.x l.loop-x.invariant.1 (λ d. alike_shown L.reps_length c.before.before.before.reader_of-reader.ensures (rw c.if-is_alike.true at c.before.is_alike.ensures)))
 
 word-requires : tie.Need-word-requires invariant-loop decreases-loop
 word-requires c κs = (c.before.before.before.before.before.before.before.before.before.before.requires.0, ((omega (arith, c.before.before.before.before.before.before.before.loop-test.true)), (eqb-true _ _ (sym c.before.before.before.before.before.before.is-deref.ensures ∙ not-false _ c.before.before.before.before.before.if1.false))))
 
-loop-again-3 : tie.Need-loop-preserved-3 invariant-loop decreases-loop
+loop-again-3 : tie.Need-loop-x-preserved invariant-loop decreases-loop
 loop-again-3 c =
     let l = c.before.before.before.before.before.before.before.before.before.before in
     let i = get_or l.before.before.args.places.now l.loop.x 0 in
     let r = sym c.before.before.before.before.before.before.reader-of.ensures ∙ c.before.before.before.before.before.if2.false in
-    (omega (arith, c.before.before.before.before.before.before.before.before.before.loop-test.true), below_more _ l.loop.x l.loop.invariant.1 (λ d. listed r (record { place = i; below = omega (arith, c.before.before.before.if4.false); is = c.if5.false ∙ c.before.word.ensures })))
+    (omega (arith, c.before.before.before.before.before.before.before.before.before.loop-test.true), below_more _ l.loop.x l.loop.invariant.1 (λ d. listed r (record { place = i; below = omega (arith, c.before.before.before.if4.false); is = c.if-words-i.false ∙ c.before.word.ensures })))
 
-returns-4 : tie.Need-returns-4 invariant-loop decreases-loop
-returns-4 c = all_stand (λ k h. c.before.loop.invariant.1 k (omega (arith, c.loop-test.false)))
+returns-4 : tie.Need-returns invariant-loop decreases-loop
+returns-4 c = all_stand (λ k h. c.before.loop-x.invariant.1 k (omega (arith, c.loop-x-test.false)))
 
-pub all-stand-spec : {M : Type 1} → statement M
-all-stand-spec =
+pub all_stand_spec : {M : Type 1} → statement M
+all_stand_spec =
     tie.close
     (tie.spec
     invariant-loop

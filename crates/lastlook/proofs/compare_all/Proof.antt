@@ -9,32 +9,32 @@ use Rattle.lastlook.specs.Order.{Follows, right, wrong, tested_right, tested_as}
 use Rattle.lastlook.proofs.compare_all.Statement.{statement}
 use Rattle.lastlook.proofs.compare_all.Tie as tie
 
-abbrev invariant-loop : tie.invariant-loop
+abbrev invariant-loop : tie.invariant-loop-i
 invariant-loop terms representatives offsets words count i₀ i = (0 < i) × ((k : ℕ) → k < i → 0 < k → Follows (view representatives offsets) (get_or words (k - 1) 0) (get_or words k 0))
 
-abbrev decreases-loop : tie.decreases-loop
+abbrev decreases-loop : tie.decreases-loop-i
 decreases-loop terms representatives offsets words count i₀ i = count - i
 
-loop-holds : tie.Need-loop-init invariant-loop decreases-loop
+loop-holds : tie.Need-loop-i-init invariant-loop decreases-loop
 loop-holds c = (omega arith, λ k l h. absurd (omega arith))
 
 compare-requires : tie.Need-compare-requires invariant-loop decreases-loop
 compare-requires c κs = c.before.before.before.before.before.requires.0
 
-returns : tie.Need-returns invariant-loop decreases-loop
-returns c = tested_as _ (rw c.before.x.given.1 at c.before.before.before.compare.ensures)
+returns : tie.Need-returns-in-Pair invariant-loop decreases-loop
+returns c = tested_as _ (rw c.before.x-1.given.1 at c.before.before.before.compare.ensures)
 
-returns-2 : tie.Need-returns-2 invariant-loop decreases-loop
+returns-2 : tie.Need-returns-in-Unordered invariant-loop decreases-loop
 returns-2 c = wrong
 
-loop-again : tie.Need-loop-preserved invariant-loop decreases-loop
-loop-again c = (omega arith, below_more _ c.before.before.before.before.before.before.loop.i c.before.before.before.before.before.before.loop.invariant.1 (λ h. tested_right (rw c.enum-told2.given.1 at c.before.before.compare.ensures)))
+loop-again : tie.Need-loop-i-preserved invariant-loop decreases-loop
+loop-again c = (omega arith, below_more _ c.before.before.before.before.before.before.loop.i c.before.before.before.before.before.before.loop.invariant.1 (λ h. tested_right (rw c.enum_told-in-Agree-1.given.1 at c.before.before.compare.ensures)))
 
-returns-3 : tie.Need-returns-3 invariant-loop decreases-loop
-returns-3 c = right (record { step = λ k l. c.before.loop.invariant.1 k (omega (arith, c.loop-test.false)) })
+returns-3 : tie.Need-returns invariant-loop decreases-loop
+returns-3 c = right (record { step = λ k l. c.before.loop-i.invariant.1 k (omega (arith, c.loop-i-test.false)) })
 
-pub compare-all-spec : {M : Type 1} → statement M
-compare-all-spec =
+pub compare_all_spec : {M : Type 1} → statement M
+compare_all_spec =
     tie.close
     (tie.spec
     invariant-loop

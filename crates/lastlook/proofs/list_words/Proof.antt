@@ -8,20 +8,20 @@ use Rattle.lastlook.specs.Addresses.{class_read}
 use Rattle.lastlook.proofs.list_words.Statement.{statement}
 use Rattle.lastlook.proofs.list_words.Tie as tie
 
-abbrev invariant-loop : tie.invariant-loop
+abbrev invariant-loop : tie.invariant-loop-x
 invariant-loop terms representatives offsets readers words₀ count₀ x₀ x-end words count x = (count ≤ x) × (x ≤ length terms)
 
-abbrev decreases-loop : tie.decreases-loop
+abbrev decreases-loop : tie.decreases-loop-x
 decreases-loop terms representatives offsets readers words₀ count₀ x₀ x-end words count x = length terms - x
 
-reader-of-requires : tie.Need-reader-of-requires invariant-loop decreases-loop
-reader-of-requires c κs = class_read c.before.before.before.before.before.requires (omega (arith, c.before.before.loop-test.true)) (eqb-true _ _ (sym c.before.is-deref.ensures ∙ not-false _ c.if1.false))
+reader-of-requires : tie.Need-reader_of-requires invariant-loop decreases-loop
+reader-of-requires c κs = class_read c.before.before.before.before.before.requires (omega (arith, c.before.before.loop-x-test.true)) (eqb-true _ _ (sym c.before.is_deref.ensures ∙ not-false _ c.if-not-is_deref.false))
 
 word-requires : tie.Need-word-requires invariant-loop decreases-loop
-word-requires c κs = (c.before.before.before.before.before.before.before.requires, ((omega (arith, c.before.before.before.before.loop-test.true)), (eqb-true _ _ (sym c.before.before.before.is-deref.ensures ∙ not-false _ c.before.before.if1.false))))
+word-requires c κs = (c.before.before.before.before.before.before.before.requires, ((omega (arith, c.before.before.before.before.loop-x-test.true)), (eqb-true _ _ (sym c.before.before.before.is_deref.ensures ∙ not-false _ c.before.before.if-not-is_deref.false))))
 
-pub list-words-spec : {M : Type 1} → statement M
-list-words-spec =
+pub list_words_spec : {M : Type 1} → statement M
+list_words_spec =
     tie.close
     (tie.spec
     invariant-loop

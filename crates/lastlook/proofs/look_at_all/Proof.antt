@@ -10,16 +10,16 @@ use Rattle.lastlook.specs.Addresses.{SameAddress, pair_below, pairs_few, closed_
 use Rattle.lastlook.proofs.look_at_all.Statement.{statement}
 use Rattle.lastlook.proofs.look_at_all.Tie as tie
 
-abbrev invariant-loop : tie.invariant-loop
+abbrev invariant-loop : tie.invariant-loop-k
 invariant-loop terms representatives offsets n k₀ k-end k = (k ≤ n * n) × ((j : ℕ) → j < k → SameAddress (term_in terms) (view representatives offsets) (j / n) (j % n) → Holds (view representatives offsets) (j / n) (pos 0) (j % n))
 
-abbrev decreases-loop : tie.decreases-loop
+abbrev decreases-loop : tie.decreases-loop-k
 decreases-loop terms representatives offsets n k₀ k-end k = n * n - k
 
-mul-k-end : tie.Need-overflow-mul-k-end invariant-loop decreases-loop
+mul-k-end : tie.Need-overflow_mul-k-end invariant-loop decreases-loop
 mul-k-end c = omega (arith, pairs_few _ c.before.requires.few)
 
-loop-holds : tie.Need-loop-init invariant-loop decreases-loop
+loop-holds : tie.Need-loop-k-init invariant-loop decreases-loop
 loop-holds c = (omega arith, below_none _)
 
 div-x : tie.Need-nonzero-div-x invariant-loop decreases-loop
@@ -28,23 +28,23 @@ div-x c = let p = pair_below _ c.loop-test.true in omega arith
 rem-y : tie.Need-nonzero-rem-y invariant-loop decreases-loop
 rem-y c = let p = pair_below _ c.loop-test.true in omega arith
 
-is-unequal-requires : tie.Need-is-unequal-requires invariant-loop decreases-loop
-is-unequal-requires c κs = let p = pair_below _ c.loop-test.true in (c.before.before.before.requires, (p.first, p.second))
+is-unequal-requires : tie.Need-is_unequal-requires invariant-loop decreases-loop
+is-unequal-requires c κs = let p = pair_below _ c.loop-k-test.true in (c.before.before.before.requires, (p.first, p.second))
 
-returns : tie.Need-returns invariant-loop decreases-loop
-returns c = let p = pair_below _ c.before.before.loop-test.true in unequal_pair p.first p.second (rw c.if1.true at c.before.is-unequal.ensures)
+returns : tie.Need-returns-then-is_unequal invariant-loop decreases-loop
+returns c = let p = pair_below _ c.before.before.loop-k-test.true in unequal_pair p.first p.second (rw c.if-is_unequal.true at c.before.is_unequal.ensures)
 
-add-k : tie.Need-overflow-add-k invariant-loop decreases-loop
-add-k c = omega (arith, pairs_few _ c.before.before.before.before.before.requires.few, c.before.before.loop-test.true)
+add-k : tie.Need-overflow_step-k invariant-loop decreases-loop
+add-k c = omega (arith, pairs_few _ c.before.before.before.before.before.requires.few, c.before.before.loop-k-test.true)
 
-loop-again : tie.Need-loop-preserved invariant-loop decreases-loop
-loop-again c = (omega arith, below_more _ c.before.before.before.loop.k c.before.before.before.loop.invariant.1 (not_unequal (rw c.if1.false at c.before.is-unequal.ensures)))
+loop-again : tie.Need-loop-k-preserved invariant-loop decreases-loop
+loop-again c = (omega arith, below_more _ c.before.before.before.loop-k.k c.before.before.before.loop-k.invariant.1 (not_unequal (rw c.if-is_unequal.false at c.before.is_unequal.ensures)))
 
-returns-2 : tie.Need-returns-2 invariant-loop decreases-loop
-returns-2 c = closed_by_all _ (λ j h. c.before.loop.invariant.1 j (omega (arith, c.loop-test.false)))
+returns-2 : tie.Need-returns invariant-loop decreases-loop
+returns-2 c = closed_by_all _ (λ j h. c.before.loop-k.invariant.1 j (omega (arith, c.loop-k-test.false)))
 
-pub look-at-all-spec : {M : Type 1} → statement M
-look-at-all-spec =
+pub look_at_all_spec : {M : Type 1} → statement M
+look_at_all_spec =
     tie.close
     (tie.spec
     invariant-loop

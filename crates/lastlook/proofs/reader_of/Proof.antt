@@ -6,7 +6,7 @@ use Rattle.lastlook.proofs.reader_of.Tie as tie
 returns : tie.Need-returns
 returns c = rw c.before.class_of.ensures
 
-pub reader-of-spec : {M : Type 1} → statement M
-reader-of-spec =
+pub reader_of_spec : {M : Type 1} → statement M
+reader_of_spec =
     tie.close
     (tie.spec (λ c κs. search rules) (λ c. search rules) (λ c. search rules) (λ c. search rules) returns)

@@ -7,18 +7,18 @@ use Rattle.lastlook.specs.Addresses.{signed_same, zero_plus}
 use Rattle.lastlook.proofs.same_label.Statement.{statement}
 use Rattle.lastlook.proofs.same_label.Tie as tie
 
-returns : tie.Need-returns
+returns : tie.Need-returns-then-representatives-i
 unfolding holds
-returns c = rw (ne_eqb _ _ c.if1.true)
+returns c = rw (ne_eqb _ _ c.if-representatives-i.true)
 
-returns-2 : tie.Need-returns-2
+returns-2 : tie.Need-returns
 unfolding holds
 returns-2 c =
-    let e = c.is_same.ensures ∙ signed_same _ _ (sfits_of c.before.before.is-same-arg.given) (sfits_of c.before.is-same-arg2.given) in
-    rw (eq-eqb _ _ c.before.before.before.if1.false, zero_plus) e
+    let e = c.is_same.ensures ∙ signed_same _ _ (sfits_of c.before.before.is_same-arg-1.given) (sfits_of c.before.is_same-arg-2-1.given) in
+    rw (eq-eqb _ _ c.before.before.before.if-representatives-i.false, zero_plus) e
 
-pub same-label-spec : {M : Type 1} → statement M
-same-label-spec =
+pub same_label_spec : {M : Type 1} → statement M
+same_label_spec =
     tie.close
     (tie.spec
     (λ c. search rules)

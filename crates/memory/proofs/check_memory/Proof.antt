@@ -7,20 +7,20 @@ use Rattle.tables.specs.Limits.{square_small}
 use Rattle.memory.proofs.check_memory.Statement.{statement}
 use Rattle.memory.proofs.check_memory.Tie as tie
 
-mul-short-bytes : tie.Need-overflow-mul-short-bytes
+mul-short-bytes : tie.Need-overflow_mul-short_bytes
 mul-short-bytes c = omega (arith, square_small c.args.n c.requires)
 
-add-short-bytes : tie.Need-overflow-add-short-bytes
+add-short-bytes : tie.Need-overflow_add-short_bytes
 add-short-bytes c = omega (arith, square_small c.args.n c.requires)
 
-returns : tie.Need-returns
+returns : tie.Need-returns-then-representatives-n
 unfolding room_fault
-returns c = c.refuse.ensures ∙ rw c.before.if1.true
+returns c = c.refuse.ensures ∙ rw c.before.if-representatives-n.true
 
-returns-2 : tie.Need-returns-2
+returns-2 : tie.Need-returns
 unfolding room_fault
-returns-2 c = rw c.if1.false
+returns-2 c = rw c.if-representatives-n.false
 
-pub check-memory-spec : {M : Type 1} → statement M
-check-memory-spec =
+pub check_memory_spec : {M : Type 1} → statement M
+check_memory_spec =
     tie.close (tie.spec mul-short-bytes add-short-bytes (λ c κs. search rules) returns returns-2)

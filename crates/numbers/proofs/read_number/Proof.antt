@@ -3,14 +3,14 @@ use borrow.Author.Rules.{rules}
 use Rattle.numbers.proofs.read_number.Statement.{statement}
 use Rattle.numbers.proofs.read_number.Tie as tie
 
-returns : tie.Need-returns
-returns c = rw c.before.before.before.before.r.given.1
+returns : tie.Need-returns-in-Accepted
+returns c = rw c.before.before.before.before.r-1.given.1
 
-returns-2 : tie.Need-returns-2
-returns-2 c = rw (c.before.before.before.r2.given.1, c.before.number_of_lem.ensures.0)
+returns-2 : tie.Need-returns-in-Refused
+returns-2 c = rw (c.before.before.before.r-in-Refused-1.given.1, c.before.number_of_lem.ensures.0)
 
-pub read-number-spec : {M : Type 1} → statement M
-read-number-spec =
+pub read_number_spec : {M : Type 1} → statement M
+read_number_spec =
     tie.close
     (tie.spec
     (λ c. search rules)

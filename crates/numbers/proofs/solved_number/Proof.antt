@@ -3,11 +3,11 @@ use borrow.Author.Rules.{rules}
 use Rattle.numbers.proofs.solved_number.Statement.{statement}
 use Rattle.numbers.proofs.solved_number.Tie as tie
 
-returns-3 : tie.Need-returns-3
-returns-3 c = rw (c.before.before.before.s.given.1, c.before.number_of_lem.ensures.0)
+returns-3 : tie.Need-returns-in-Refused
+returns-3 c = rw (c.before.before.before.s-1.given.1, c.before.number_of_lem.ensures.0)
 
-pub solved-number-spec : {M : Type 1} → statement M
-solved-number-spec =
+pub solved_number_spec : {M : Type 1} → statement M
+solved_number_spec =
     tie.close
     (tie.spec
     (λ c. search rules)

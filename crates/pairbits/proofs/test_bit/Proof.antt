@@ -12,5 +12,5 @@ returns : tie.Need-returns
 unfolding is_set bit_of
 returns c = rw (and_mask (get_or c.before.args.bytes.now (c.before.args.i / 8) 0 / 2 ^ (c.before.args.i % 8)) 1)
 
-pub test-bit-spec : {M : Type 1} → statement M
-test-bit-spec = tie.close (tie.spec (λ c. search rules) (λ c. search rules) (λ c. search rules) returns)
+pub test_bit_spec : {M : Type 1} → statement M
+test_bit_spec = tie.close (tie.spec (λ c. search rules) (λ c. search rules) (λ c. search rules) returns)

@@ -8,60 +8,60 @@ use Rattle.questions.specs.Searches.{found, Met, met_slot, Seeking, seeking_star
 use Rattle.questions.proofs.any_there.Statement.{statement}
 use Rattle.questions.proofs.any_there.Tie as tie
 
-abbrev invariant-loop : tie.invariant-loop
+abbrev invariant-loop : tie.invariant-loop-j
 invariant-loop n i class height mirrored reads read-heights slot-first slot_next pairs j₀ j =
     Seeking n (place_slot reads read-heights) (slot_of class height) (Met n reads read-heights pairs mirrored class height i.0) j
 
-abbrev decreases-loop : tie.decreases-loop
+abbrev decreases-loop : tie.decreases-loop-j
 decreases-loop n i class height mirrored reads read-heights slot-first slot_next pairs j₀ j = n - j
 
 slot-requires : tie.Need-slot-requires invariant-loop decreases-loop
 slot-requires c κs = let p = c.before.before.before.before.before.requires in (omega (arith, p.1.1.0, p.0.few), omega (arith, p.1.1.1.0))
 
-linked-requires : tie.Need-linked-requires invariant-loop decreases-loop
+linked-requires : tie.Need-linked-j-requires invariant-loop decreases-loop
 linked-requires c κs = rw c.before.before.before.before.before.before.requires.1.0.chains.starts.long c.slot.ensures.1
 
-loop-holds : tie.Need-loop-init invariant-loop decreases-loop
+loop-holds : tie.Need-loop-j-init invariant-loop decreases-loop
 loop-holds c = let s = c.before.before.before.before.before.before.before in
     let reads = s.args.reads.now in
     let heights = s.args.read-heights.now in
     let pairs = s.args.pairs.now in
-    rw (c.linked.ensures, c.before.slot.ensures.0)
+    rw (c.linked-j.ensures, c.before.slot.ensures.0)
     (seeking_start (Met s.args.n reads heights pairs s.args.mirrored s.args.class s.args.height s.args.i.0)
     (met_slot s.args.n reads heights pairs s.args.mirrored s.args.class s.args.height s.args.i.0)
     (slot_start s.requires.1.0 (slot_of s.args.class s.args.height) (rw c.before.slot.ensures.0 at c.before.slot.ensures.1)))
 
-differs-there-requires : tie.Need-differs-there-requires invariant-loop decreases-loop
-differs-there-requires c κs = let p = c.before.before.before.before.before.before.before.before.before.requires in (p.0, (record { few = p.0.few; left = p.1.1.1.1.0; right = c.loop-test.true }, p.1.1.1.1.1))
+differs-there-requires : tie.Need-differs_there-requires invariant-loop decreases-loop
+differs-there-requires c κs = let p = c.before.before.before.before.before.before.before.before.before.requires in (p.0, (record { few = p.0.few; left = p.1.1.1.1.0; right = c.loop-j-test.true }, p.1.1.1.1.1))
 
-returns : tie.Need-returns invariant-loop decreases-loop
-returns c = found c.before.before.before.loop.j c.before.before.loop-test.true (record { test = sym c.before.differs-there.ensures ∙ c.if1.true })
+returns : tie.Need-returns-then-differs_there invariant-loop decreases-loop
+returns c = found c.before.before.before.loop-j.j c.before.before.loop-j-test.true (record { test = sym c.before.differs_there.ensures ∙ c.if-differs_there.true })
 
-linked-requires-2 : tie.Need-linked-requires-2 invariant-loop decreases-loop
-linked-requires-2 c κs = omega (arith, c.before.before.before.before.before.before.before.before.before.before.before.requires.1.0.chains.room, c.before.before.loop-test.true)
+linked-requires-2 : tie.Need-linked-j-requires-in-loop-j invariant-loop decreases-loop
+linked-requires-2 c κs = omega (arith, c.before.before.before.before.before.before.before.before.before.before.before.requires.1.0.chains.room, c.before.before.loop-j-test.true)
 
-loop-less : tie.Need-loop-smaller invariant-loop decreases-loop
-loop-less c = let f = (slot_link c.before.before.before.before.before.before.before.before.before.before.before.before.requires.1.0 c.before.before.before.before.loop.j c.before.before.before.loop-test.true).after in omega (arith, c.linked2.ensures, c.before.before.before.loop-test.true)
+loop-less : tie.Need-loop-j-smaller invariant-loop decreases-loop
+loop-less c = let f = (slot_link c.before.before.before.before.before.before.before.before.before.before.before.before.requires.1.0 c.before.before.before.before.loop-j.j c.before.before.before.loop-j-test.true).after in omega (arith, c.linked-j-in-loop-j.ensures, c.before.before.before.loop-j-test.true)
 
-loop-again : tie.Need-loop-preserved invariant-loop decreases-loop
+loop-again : tie.Need-loop-j-preserved invariant-loop decreases-loop
 loop-again c = let s = c.before.before.before.before.before.before.before.before.before.before.before.before in
     let reads = s.args.reads.now in
     let heights = s.args.read-heights.now in
     let pairs = s.args.pairs.now in
-    rw c.linked2.ensures
+    rw c.linked-j-in-loop-j.ensures
     (seeking_more (Met s.args.n reads heights pairs s.args.mirrored s.args.class s.args.height s.args.i.0)
     (met_slot s.args.n reads heights pairs s.args.mirrored s.args.class s.args.height s.args.i.0)
-    c.before.before.before.loop-test.true (slot_link s.requires.1.0 c.before.before.before.before.loop.j c.before.before.before.loop-test.true) c.before.before.before.before.loop.invariant
-    (λ m. false_true (sym c.before.before.differs-there.ensures ∙ c.before.if1.false) m.test))
+    c.before.before.before.loop-j-test.true (slot_link s.requires.1.0 c.before.before.before.before.loop-j.j c.before.before.before.loop-j-test.true) c.before.before.before.before.loop-j.invariant
+    (λ m. false_true (sym c.before.before.differs_there.ensures ∙ c.before.if-differs_there.false) m.test))
 
-returns-2 : tie.Need-returns-2 invariant-loop decreases-loop
+returns-2 : tie.Need-returns invariant-loop decreases-loop
 returns-2 c = let s = c.before.before.before.before.before.before.before.before.before.args in
     seeking_done (Met s.n s.reads.now s.read-heights.now s.pairs.now s.mirrored s.class s.height s.i.0)
     (met_slot s.n s.reads.now s.read-heights.now s.pairs.now s.mirrored s.class s.height s.i.0)
-    c.loop-test.false c.before.loop.invariant
+    c.loop-j-test.false c.before.loop-j.invariant
 
-pub any-there-spec : {M : Type 1} → statement M
-any-there-spec =
+pub any_there_spec : {M : Type 1} → statement M
+any_there_spec =
     tie.close
     (tie.spec
     invariant-loop

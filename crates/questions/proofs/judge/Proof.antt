@@ -7,39 +7,39 @@ use Rattle.questions.specs.Searches.{side_row, one_place, two_places, listed_way
 use Rattle.questions.proofs.judge.Statement.{statement}
 use Rattle.questions.proofs.judge.Tie as tie
 
-returns : tie.Need-returns
-returns c = let s = c.before.before.before.before.before.before.before.before.before.before.before.before.before.before.before.before.args in says_equal refl (one_place s.a s.p s.b s.q (sym c.before.same_place.ensures ∙ c.if1.true))
+returns : tie.Need-returns-then-same_place
+returns c = let s = c.before.before.before.before.before.before.before.before.before.before.before.before.before.before.before.before.args in says_equal refl (one_place s.a s.p s.b s.q (sym c.before.same_place.ensures ∙ c.if-same_place.true))
 
-returns-2 : tie.Need-returns-2
+returns-2 : tie.Need-returns-then-classes_differ
 returns-2 c = let s = c.before.before.before.before.before.before.before.before.before.before.before.before.before.before.before.before.before.before.args in
-    says_different refl (two_places s.a s.p s.b s.q (sym c.before.before.before.same_place.ensures ∙ c.before.before.if1.false))
-    (by_classes (sym c.before.classes-differ.ensures ∙ c.if2.true))
+    says_different refl (two_places s.a s.p s.b s.q (sym c.before.before.before.same_place.ensures ∙ c.before.before.if-same_place.false))
+    (by_classes (sym c.before.classes_differ.ensures ∙ c.if-classes_differ.true))
 
-any-listed-requires : tie.Need-any-listed-requires
+any-listed-requires : tie.Need-any_listed-requires
 any-listed-requires c κs = let p = c.before.before.before.before.before.before.before.before.before.before.before.before.before.before.before.before.before.before.requires in
     let few = p.0.chained.column.few in
     ((λ k h. side_row (p.0.sides k h), p.1.1.1), (p.0.by_distance, (omega (arith, p.1.0), omega (arith, p.1.1.0))))
 
-returns-3 : tie.Need-returns-3
+returns-3 : tie.Need-returns-then-any_listed
 returns-3 c = let s = c.before.before.before.before.before.before.before.before.before.before.before.before.before.before.before.before.before.before.before.before in
-    says_different refl (two_places s.args.a s.args.p s.args.b s.args.q (sym c.before.before.before.before.before.same_place.ensures ∙ c.before.before.before.before.if1.false))
-    (listed_way s.requires.1.0 s.requires.1.1.0 c.before.any-listed.ensures c.if3.true)
+    says_different refl (two_places s.args.a s.args.p s.args.b s.args.q (sym c.before.before.before.before.before.same_place.ensures ∙ c.before.before.before.before.if-same_place.false))
+    (listed_way s.requires.1.0 s.requires.1.1.0 c.before.any_listed.ensures c.if-any_listed.true)
 
-any-values-requires : tie.Need-any-values-requires
+any-values-requires : tie.Need-any_values-requires
 any-values-requires c κs = let p = c.before.before.before.before.before.before.before.before.before.before.before.before.before.before.before.before.before.before.before.before.requires in (p.0.chained, (omega (arith, p.1.0), (omega (arith, p.1.1.0), (p.1.1.1.0, (p.1.1.1.1, p.0.pairs_room)))))
 
-returns-4 : tie.Need-returns-4
+returns-4 : tie.Need-returns-then-any_values
 returns-4 c = let s = c.before.before.before.before.before.before.before.before.before.before.before.before.before.before.before.before.before.before.before.before.before.before.args in
-    says_different refl (two_places s.a s.p s.b s.q (sym c.before.before.before.before.before.before.before.same_place.ensures ∙ c.before.before.before.before.before.before.if1.false))
-    (values_way c.before.any-values.ensures c.if4.true)
+    says_different refl (two_places s.a s.p s.b s.q (sym c.before.before.before.before.before.before.before.same_place.ensures ∙ c.before.before.before.before.before.before.if-same_place.false))
+    (values_way c.before.any_values.ensures c.if-any_values.true)
 
-returns-5 : tie.Need-returns-5
+returns-5 : tie.Need-returns
 returns-5 c = let s = c.before.before.before.before.before.before.before.before.before.before.before.before.before.before.before.before.before.before.before.before.before.before.args in
-    says_neither refl (two_places s.a s.p s.b s.q (sym c.before.before.before.before.before.before.before.same_place.ensures ∙ c.before.before.before.before.before.before.if1.false))
-    (no_way (sym c.before.before.before.before.before.classes-differ.ensures ∙ c.before.before.before.before.if2.false) c.before.before.before.any-listed.ensures c.before.before.if3.false c.before.any-values.ensures c.if4.false)
+    says_neither refl (two_places s.a s.p s.b s.q (sym c.before.before.before.before.before.before.before.same_place.ensures ∙ c.before.before.before.before.before.before.if-same_place.false))
+    (no_way (sym c.before.before.before.before.before.classes_differ.ensures ∙ c.before.before.before.before.if-classes_differ.false) c.before.before.before.any_listed.ensures c.before.before.if-any_listed.false c.before.any_values.ensures c.if-any_values.false)
 
-pub judge-spec : {M : Type 1} → statement M
-judge-spec =
+pub judge_spec : {M : Type 1} → statement M
+judge_spec =
     tie.close
     (tie.spec
     (λ c κs. search rules)

@@ -5,11 +5,11 @@ use Rattle.questions.specs.Searches.{bit_straight, bit_mirrored}
 use Rattle.questions.proofs.test_either.Statement.{statement}
 use Rattle.questions.proofs.test_either.Tie as tie
 
-returns : tie.Need-returns
-returns c = let s = c.before.before.before.args in c.test-pair.ensures ∙ bit_mirrored s.n s.pairs.now s.i.0 s.j.0 c.before.if1.true
+returns : tie.Need-returns-then-mirrored
+returns c = let s = c.before.before.before.args in c.test_pair.ensures ∙ bit_mirrored s.n s.pairs.now s.i.0 s.j.0 c.before.if-mirrored.true
 
-returns-2 : tie.Need-returns-2
-returns-2 c = let s = c.before.before.before.args in c.test-pair2.ensures ∙ bit_straight s.n s.pairs.now s.i.0 s.j.0 c.before.if1.false
+returns-2 : tie.Need-returns
+returns-2 c = let s = c.before.before.before.args in c.test_pair-2.ensures ∙ bit_straight s.n s.pairs.now s.i.0 s.j.0 c.before.if-mirrored.false
 
-pub test-either-spec : {M : Type 1} → statement M
-test-either-spec = tie.close (tie.spec (λ c κs. search rules) returns (λ c κs. search rules) returns-2)
+pub test_either_spec : {M : Type 1} → statement M
+test_either_spec = tie.close (tie.spec (λ c κs. search rules) returns (λ c κs. search rules) returns-2)

@@ -9,11 +9,11 @@ use Rattle.reader.proofs.faulty_line.Tie as tie
 
 returns : tie.Need-returns
 returns c =
-    let p = c.before.before.faulty-part in
+    let p = c.before.before.faulty_part-part in
     let size : p.result.start + p.result.size - p.result.start ≡ p.result.size = omega arith in
     handed_back _ _ _ p.result p.ensures refl (rw size)
 
-pub faulty-line-spec : {M : Type 1} → statement M
-faulty-line-spec =
+pub faulty_line_spec : {M : Type 1} → statement M
+faulty_line_spec =
     tie.close
     (tie.spec (λ c κs. search rules) (λ c. search rules) (λ c. search rules) (λ c. search rules) (λ c. search rules) returns)

@@ -15,31 +15,31 @@ tables s =
     let Q = s.args.questions.now in
     tables_of (length T) T (length P) P (length Q) Q
 
-returns : tie.Need-returns
+returns : tie.Need-returns-in_default
 unfolding records_fault
 returns c =
     let T = tables c.before.before.before in
-    refused_first (in_terms T) (or_else (in_propositions T) (in_questions T)) c.before.before.check-terms.ensures c.enum-told2.given.1
+    refused_first (in_terms T) (or_else (in_propositions T) (in_questions T)) c.before.before.check_terms-found.ensures c.enum_told-in_default-1.given.1
 
-returns-2 : tie.Need-returns-2
+returns-2 : tie.Need-returns-in_default-found
 unfolding records_fault
 returns-2 c =
     let t = c.before.before.before in
     let T = tables t.before.before.before in
-    accepted_first (in_terms T) (or_else (in_propositions T) (in_questions T)) t.before.before.check-terms.ensures t.enum_told.given.1
-    (refused_first (in_propositions T) (in_questions T) c.before.before.check-propositions.ensures c.enum-told4.given.1)
+    accepted_first (in_terms T) (or_else (in_propositions T) (in_questions T)) t.before.before.check_terms-found.ensures t.enum_told-1.given.1
+    (refused_first (in_propositions T) (in_questions T) c.before.before.check_propositions-found.ensures c.enum_told-in_default-found-1.given.1)
 
-returns-3 : tie.Need-returns-3
+returns-3 : tie.Need-returns
 unfolding records_fault
 returns-3 c =
     let p = c.before in
     let t = p.before.before.before in
     let T = tables t.before.before.before in
-    accepted_first (in_terms T) (or_else (in_propositions T) (in_questions T)) t.before.before.check-terms.ensures t.enum_told.given.1
-    (accepted_first (in_propositions T) (in_questions T) p.before.before.check-propositions.ensures p.enum-told3.given.1 c.check-questions.ensures)
+    accepted_first (in_terms T) (or_else (in_propositions T) (in_questions T)) t.before.before.check_terms-found.ensures t.enum_told-1.given.1
+    (accepted_first (in_propositions T) (in_questions T) p.before.before.check_propositions-found.ensures p.enum_told-in-Accepted-found-1.given.1 c.check_questions.ensures)
 
-pub check-records-spec : {M : Type 1} → statement M
-check-records-spec =
+pub check_records_spec : {M : Type 1} → statement M
+check_records_spec =
     tie.close
     (tie.spec
     (λ c κs. search rules)

@@ -5,34 +5,34 @@ use Rattle.tables.specs.TableFaults.{lengths_fault}
 use Rattle.refusals.proofs.check_sizes.Statement.{statement}
 use Rattle.refusals.proofs.check_sizes.Tie as tie
 
-returns : tie.Need-returns
+returns : tie.Need-returns-then-many_terms
 unfolding lengths_fault
-returns c = c.refuse.ensures ∙ rw c.before.if1.true
+returns c = c.refuse.ensures ∙ rw c.before.if-many_terms.true
 
-returns-2 : tie.Need-returns-2
+returns-2 : tie.Need-returns-then-many_propositions
 unfolding lengths_fault
-returns-2 c = c.refuse2.ensures ∙ rw (c.before.before.if1.false, c.before.if2.true)
+returns-2 c = c.refuse-then-many_propositions.ensures ∙ rw (c.before.before.if-many_terms.false, c.before.if-many_propositions.true)
 
-returns-3 : tie.Need-returns-3
+returns-3 : tie.Need-returns-then-many_questions
 unfolding lengths_fault
 returns-3 c =
     let m = c.before.before in
-    c.refuse3.ensures ∙ rw (m.before.if1.false, m.if2.false, c.before.if3.true)
+    c.refuse-then-many_questions.ensures ∙ rw (m.before.if-many_terms.false, m.if-many_propositions.false, c.before.if-many_questions.true)
 
-returns-4 : tie.Need-returns-4
+returns-4 : tie.Need-returns-then-short
 unfolding lengths_fault
 returns-4 c =
     let m = c.before.before.before in
-    c.refuse4.ensures ∙ rw (m.before.if1.false, m.if2.false, c.before.before.if3.false, c.before.if4.true)
+    c.refuse-then-short.ensures ∙ rw (m.before.if-many_terms.false, m.if-many_propositions.false, c.before.before.if-many_questions.false, c.before.if-short.true)
 
-returns-5 : tie.Need-returns-5
+returns-5 : tie.Need-returns
 unfolding lengths_fault
 returns-5 c =
     let m = c.before.before in
-    rw (m.before.if1.false, m.if2.false, c.before.if3.false, c.if4.false)
+    rw (m.before.if-many_terms.false, m.if-many_propositions.false, c.before.if-many_questions.false, c.if-short.false)
 
-pub check-sizes-spec : {M : Type 1} → statement M
-check-sizes-spec =
+pub check_sizes_spec : {M : Type 1} → statement M
+check_sizes_spec =
     tie.close
     (tie.spec
     (λ c κs. search rules)

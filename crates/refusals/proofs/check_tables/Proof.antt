@@ -12,27 +12,27 @@ use Rattle.refusals.proofs.check_tables.Tie as tie
 abbrev tables : tie.Start → Tables
 tables s = tables_of s.args.n s.args.terms.now s.args.m s.args.propositions.now s.args.q s.args.questions.now
 
-sizes : (c : tie.After-enum-told) → Sized most (tables c.before.before.before)
+sizes : (c : tie.In-Accepted) → Sized most (tables c.before.before.before)
 sizes c =
     let T = tables c.before.before.before in
-    sized most T (accepts (sizes_fault most T) c.before.before.check-sizes.ensures c.enum_told.given.1)
+    sized most T (accepts (sizes_fault most T) c.before.before.check_sizes-sizes.ensures c.enum_told-1.given.1)
 
-returns : tie.Need-returns
+returns : tie.Need-returns-in_default
 unfolding tables_fault
 returns c =
     let T = tables c.before.before.before in
-    refused_first (sizes_fault most T) (records_fault T) c.before.before.check-sizes.ensures c.enum-told2.given.1
+    refused_first (sizes_fault most T) (records_fault T) c.before.before.check_sizes-sizes.ensures c.enum_told-in_default-1.given.1
 
-returns-2 : tie.Need-returns-2
+returns-2 : tie.Need-returns
 unfolding tables_fault
 returns-2 c =
     let t = c.before.before.before.before in
     let T = tables t.before.before.before in
     accepted_first (sizes_fault most T) (records_fault T) t.before.before.check-sizes.ensures t.enum_told.given.1
-    (rw (parts_fault most T (sizes t)) at c.check-records.ensures)
+    (rw (parts_fault most T (sizes t)) at c.check_records.ensures)
 
-pub check-tables-spec : {M : Type 1} → statement M
-check-tables-spec =
+pub check_tables_spec : {M : Type 1} → statement M
+check_tables_spec =
     tie.close
     (tie.spec
     (λ c κs. search rules)

@@ -16,28 +16,28 @@ decreases-loop n limit start lead-first lead-next points heights class-first cla
 loop-holds : tie.Need-loop-init invariant-loop decreases-loop
 loop-holds c = draining_start c.before.before.before.before.before.before.before.before.before.before.before.before.before.before.before.before.before.before.before.requires.1.0.1
 
-look-pair-requires : tie.Need-look-pair-requires invariant-loop decreases-loop
+look-pair-requires : tie.Need-look_pair-more-requires invariant-loop decreases-loop
 look-pair-requires c κs = let q = c.before.before.before.before.before.before.before.before.before.before.before.before.before.before.before.before.before.before.before.before.before.before.before.before.requires in (q.0, ((q.1.0.0, c.before.before.before.before.loop.invariant.step.kept), q.1.1))
 
-same_length : tie.Need-same-length invariant-loop decreases-loop
+same_length : tie.Need-shape_of-pairs-then-is_over invariant-loop decreases-loop
 same_length c = c.before.before.before.before.before.before.before.look-pair.ensures.step.grows.long ∙ c.before.before.before.before.before.before.before.before.before.before.before.before.loop.invariant.step.grows.long
 
-same-length-2 : tie.Need-same-length-2 invariant-loop decreases-loop
+same-length-2 : tie.Need-shape_of-seen-then-is_over invariant-loop decreases-loop
 same-length-2 c = step_long c.before.before.before.before.before.before.before.before.before.before.before.before.before.before.before.before.before.before.before.before.before.before.before.before.before.before.before.before.before.before.before.before.requires.1.0.1 (draining_more {next = 0} c.before.before.before.before.before.before.before.before.before.before.before.before.loop.invariant c.before.before.before.before.before.before.before.look-pair.ensures).step
 
-returns : tie.Need-returns invariant-loop decreases-loop
+returns : tie.Need-returns-then-is_over invariant-loop decreases-loop
 returns c = draining_done (omega arith) (draining_more {next = 0} c.before.before.before.before.before.before.before.before.before.before.before.before.loop.invariant c.before.before.before.before.before.before.before.look-pair.ensures)
 
-same-length-3 : tie.Need-same-length-3 invariant-loop decreases-loop
+same-length-3 : tie.Need-shape_of-pairs-then-pair-eq0 invariant-loop decreases-loop
 same-length-3 c = c.before.before.before.before.before.before.before.before.before.before.before.look-pair.ensures.step.grows.long ∙ c.before.before.before.before.before.before.before.before.before.before.before.before.before.before.before.before.loop.invariant.step.grows.long
 
-same-length-4 : tie.Need-same-length-4 invariant-loop decreases-loop
+same-length-4 : tie.Need-shape_of-seen-then-pair-eq0 invariant-loop decreases-loop
 same-length-4 c = step_long c.before.before.before.before.before.before.before.before.before.before.before.before.before.before.before.before.before.before.before.before.before.before.before.before.before.before.before.before.before.before.before.before.before.before.before.before.requires.1.0.1 (draining_more {next = 0} c.before.before.before.before.before.before.before.before.before.before.before.before.before.before.before.before.loop.invariant c.before.before.before.before.before.before.before.before.before.before.before.look-pair.ensures).step
 
-returns-2 : tie.Need-returns-2 invariant-loop decreases-loop
+returns-2 : tie.Need-returns-then-pair-eq0 invariant-loop decreases-loop
 returns-2 c = draining_done (omega arith) (draining_more {next = 0} c.before.before.before.before.before.before.before.before.before.before.before.before.before.before.before.before.loop.invariant c.before.before.before.before.before.before.before.before.before.before.before.look-pair.ensures)
 
-add-counter : tie.Need-overflow-add-counter invariant-loop decreases-loop
+add-counter : tie.Need-overflow_step invariant-loop decreases-loop
 add-counter c = omega arith
 
 loop-less : tie.Need-loop-smaller invariant-loop decreases-loop
@@ -46,17 +46,17 @@ loop-less c = omega (arith, c.before.before.before.before.before.before.before.b
 loop-again : tie.Need-loop-preserved invariant-loop decreases-loop
 loop-again c = draining_more c.before.before.before.before.before.before.before.before.before.before.before.before.before.before.before.before.loop.invariant c.before.before.before.before.before.before.before.before.before.before.before.look-pair.ensures
 
-same-length-5 : tie.Need-same-length-5 invariant-loop decreases-loop
+same-length-5 : tie.Need-shape_of-pairs invariant-loop decreases-loop
 same-length-5 c = c.before.loop.invariant.step.grows.long
 
-same-length-6 : tie.Need-same-length-6 invariant-loop decreases-loop
+same-length-6 : tie.Need-shape_of-seen invariant-loop decreases-loop
 same-length-6 c = step_long c.before.before.before.before.before.before.before.before.before.before.before.before.before.before.before.before.before.before.before.before.before.requires.1.0.1 c.before.loop.invariant.step
 
-returns-3 : tie.Need-returns-3 invariant-loop decreases-loop
+returns-3 : tie.Need-returns invariant-loop decreases-loop
 returns-3 c = draining_done (omega (arith, c.loop-test.false)) c.before.loop.invariant
 
-pub drain-spec : {M : Type 1} → statement M
-drain-spec =
+pub drain_spec : {M : Type 1} → statement M
+drain_spec =
     tie.close
     (tie.spec
     invariant-loop

@@ -9,23 +9,23 @@ use native.Mathlib.Omega.{arith}
 use Rattle.settling.proofs.settle.Statement.{statement}
 use Rattle.settling.proofs.settle.Tie as tie
 
-fill-keys-requires : tie.Need-fill-keys-requires
+fill-keys-requires : tie.Need-fill_keys-requires
 fill-keys-requires c κs = let q = c.before.before.before.before.before.before.before.before.before.before.before.before.before.requires in (q.1.1.0, keyed_start q.1.0.few refl)
 
 chain-requires : tie.Need-chain-requires
-chain-requires c κs = let q = c.before.before.before.before.before.before.before.before.before.before.before.before.before.before.before.before.before.before.requires in keyed_chainable q.1.0.few c.before.before.before.before.fill-keys.ensures (omega (arith, q.1.0.few, length-replicate {A = ℕ} 512 0))
+chain-requires c κs = let q = c.before.before.before.before.before.before.before.before.before.before.before.before.before.before.before.before.before.before.requires in keyed_chainable q.1.0.few c.before.before.before.before.fill_keys.ensures (omega (arith, q.1.0.few, length-replicate {A = ℕ} 512 0))
 
-fill-seen-requires : tie.Need-fill-seen-requires
+fill-seen-requires : tie.Need-fill_seen-requires
 fill-seen-requires c κs = let q = c.before.before.before.before.before.before.before.before.before.before.before.before.before.before.before.before.before.before.before.before.before.before.before.before.before.requires in (q.1.0, (c.before.before.before.before.before.before.chain.ensures, refl))
 
-settle-from-requires : tie.Need-settle-from-requires
-settle-from-requires c κs = let q = c.before.before.before.before.before.before.before.before.before.before.before.before.before.before.before.before.before.before.before.before.before.before.before.before.before.before.before.before.before.before.before.before.before.requires in (q.0, ((record { reading = q.1.0; keys_long = omega (arith, q.1.0.few, c.before.before.before.before.before.before.before.before.before.before.before.before.before.before.before.before.before.before.before.fill-keys.ensures.long); apart_room = q.1.1.1.0 }, kept_first q.1.1.1.1.0 q.1.1.1.1.1 c.before.before.before.before.before.before.before.fill-seen.ensures), c.before.before.before.before.before.before.before.before.before.before.before.before.before.before.chain.ensures))
+settle-from-requires : tie.Need-settle_from-requires
+settle-from-requires c κs = let q = c.before.before.before.before.before.before.before.before.before.before.before.before.before.before.before.before.before.before.before.before.before.before.before.before.before.before.before.before.before.before.before.before.before.requires in (q.0, ((record { reading = q.1.0; keys_long = omega (arith, q.1.0.few, c.before.before.before.before.before.before.before.before.before.before.before.before.before.before.before.before.before.before.before.fill_keys.ensures.long); apart_room = q.1.1.1.0 }, kept_first q.1.1.1.1.0 q.1.1.1.1.1 c.before.before.before.before.before.before.before.fill_seen.ensures), c.before.before.before.before.before.before.before.before.before.before.before.before.before.before.chain.ensures))
 
 returns : tie.Need-returns
-returns c = let s = c.before.before.before.before.before.before.before.before.before.before.before.before.before.before.before.before.before.before.before.before.before.before.before.before.before.before.before.before.before.before.before.before.before.before.before.before.before.args in done_homes s.points.now s.heights.now s.reads.now s.read-heights.now s.apart.now c.before.before.before.before.before.before.before.before.before.before.before.before.before.before.before.before.before.before.before.before.before.before.before.fill-keys.ensures c.before.before.before.settle-from.ensures
+returns c = let s = c.before.before.before.before.before.before.before.before.before.before.before.before.before.before.before.before.before.before.before.before.before.before.before.before.before.before.before.before.before.before.before.before.before.before.before.before.before.args in done_homes s.points.now s.heights.now s.reads.now s.read-heights.now s.apart.now c.before.before.before.before.before.before.before.before.before.before.before.before.before.before.before.before.before.before.before.before.before.before.before.fill_keys.ensures c.before.before.before.settle_from.ensures
 
-pub settle-spec : {M : Type 1} → statement M
-settle-spec =
+pub settle_spec : {M : Type 1} → statement M
+settle_spec =
     tie.close
     (tie.spec
     (λ c. search rules)

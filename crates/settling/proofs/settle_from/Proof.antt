@@ -9,32 +9,32 @@ use native.Mathlib.Omega.{arith}
 use Rattle.settling.proofs.settle_from.Statement.{statement}
 use Rattle.settling.proofs.settle_from.Tie as tie
 
-settle-indexed-requires : tie.Need-settle-indexed-requires
+settle-indexed-requires : tie.Need-settle_indexed-requires
 settle-indexed-requires c κs = c.before.before.before.before.before.before.before.before.before.before.before.before.before.before.before.before.before.before.before.before.requires
 
-returns : tie.Need-returns
-returns c = c.before.before.before.before.settle-indexed.ensures
+returns : tie.Need-returns-then-are_many
+returns c = c.before.before.before.before.settle_indexed.ensures
 
 sweep-requires : tie.Need-sweep-requires
 sweep-requires c κs = let q = c.before.before.before.before.before.before.before.before.before.before.before.before.before.before.before.before.before.before.before.before.before.before.before.before.before.before.before.before.requires in ((q.0, indexed_none _ _ _ _ _ _ _ _ _ refl refl (zero_cells 513)), (q.1.0, q.1.1))
 
-returns-2 : tie.Need-returns-2
-returns-2 c = settling_first (not-true _ c.if2.true) c.before.before.before.before.before.sweep.ensures
+returns-2 : tie.Need-returns-then-not-sweep
+returns-2 c = settling_first (not-true _ c.if-not-sweep.true) c.before.before.before.before.before.sweep.ensures
 
-settle-indexed-requires-2 : tie.Need-settle-indexed-requires-2
+settle-indexed-requires-2 : tie.Need-settle_indexed-requires-then-is_over
 settle-indexed-requires-2 c κs = let q = c.before.before.before.before.before.before.before.before.before.before.before.before.before.before.before.before.before.before.before.before.before.before.before.before.before.before.before.before.before.before.before.before.before.before.before.before.before.before.before.before.requires in (q.0, ((q.1.0.0, c.before.before.before.before.before.before.before.before.before.before.before.sweep.ensures.step.kept), q.1.1))
 
-returns-3 : tie.Need-returns-3
-returns-3 c = settling_after c.before.before.before.before.before.before.before.before.before.before.before.before.before.before.before.before.sweep.ensures c.before.before.before.before.settle-indexed2.ensures
+returns-3 : tie.Need-returns-then-is_over
+returns-3 c = settling_after c.before.before.before.before.before.before.before.before.before.before.before.before.before.before.before.before.sweep.ensures c.before.before.before.before.settle_indexed-then-is_over.ensures
 
-sweep-all-requires : tie.Need-sweep-all-requires
+sweep-all-requires : tie.Need-sweep_all-requires
 sweep-all-requires c κs = let q = c.before.before.before.before.before.before.before.before.before.before.before.before.before.before.before.before.before.before.before.before.before.before.before.before.before.before.before.before.before.before.before.before.before.before.before.before.before.before.before.before.before.before.before.before.before.requires in ((q.0, indexed_none _ _ _ _ _ _ _ _ _ refl refl (zero_cells 513)), ((q.1.0.0, c.before.before.before.before.before.before.before.before.before.before.before.before.before.before.before.before.sweep.ensures.step.kept), q.1.1))
 
-returns-4 : tie.Need-returns-4
-returns-4 c = settling_after c.before.before.before.before.before.before.before.before.before.before.before.before.before.before.before.before.before.before.before.before.before.sweep.ensures c.before.before.before.before.sweep-all.ensures
+returns-4 : tie.Need-returns
+returns-4 c = settling_after c.before.before.before.before.before.before.before.before.before.before.before.before.before.before.before.before.before.before.before.before.before.sweep.ensures c.before.before.before.before.sweep_all.ensures
 
-pub settle-from-spec : {M : Type 1} → statement M
-settle-from-spec =
+pub settle_from_spec : {M : Type 1} → statement M
+settle_from_spec =
     tie.close
     (tie.spec
     (λ c κs. search rules)

@@ -5,11 +5,11 @@ use native.Mathlib.Omega.{arith}
 use Rattle.settling.proofs.sweep.Statement.{statement}
 use Rattle.settling.proofs.sweep.Tie as tie
 
-sweep-rows-requires : tie.Need-sweep-rows-requires
+sweep-rows-requires : tie.Need-sweep_rows-requires
 sweep-rows-requires c κs = let q = c.before.before.before.before.before.before.before.before.before.before.before.before.before.before.before.before.before.before.before.before.before.before.before.requires in (q.0, (q.1.0, (q.1.1, refl)))
 
-pub sweep-spec : {M : Type 1} → statement M
-sweep-spec =
+pub sweep_spec : {M : Type 1} → statement M
+sweep_spec =
     tie.close
     (tie.spec
     (λ c. search rules)

@@ -18,16 +18,16 @@ use Rattle.solver.proofs.verdict.Tie as tie
 abbrev tables : tie.Start → Tables
 tables s = tables_of s.args.n s.args.terms.now s.args.m s.args.propositions.now 0 (replicate 1 (replicate 3 0))
 
-returns : tie.Need-returns
-returns c = verdict_refused (tables c.before.before.before.before.before) (sym c.before.found.given.1 ∙ c.before.before.before.check-tables.ensures) ∙ unasked_verdict _ _ _ _ _
+returns : tie.Need-returns-in-Refused
+returns c = verdict_refused (tables c.before.before.before.before.before) (sym c.before.found-1.given.1 ∙ c.before.before.before.check_tables-found.ensures) ∙ unasked_verdict _ _ _ _ _
 
-passed : (c : tie.After-enum-told) → Accepted ≡ acceptance (tables_fault most (tables c.before.before.before.before))
-passed c = sym c.enum_told.given.1 ∙ c.before.before.check-tables.ensures
+passed : (c : tie.In_default) → Accepted ≡ acceptance (tables_fault most (tables c.before.before.before.before))
+passed c = sym c.enum_told-1.given.1 ∙ c.before.before.check_tables-found.ensures
 
-sizes : (c : tie.After-enum-told) → Sized most (tables c.before.before.before.before)
+sizes : (c : tie.In_default) → Sized most (tables c.before.before.before.before)
 sizes c = counts (tables c.before.before.before.before) (passed c)
 
-is-consistent-requires : tie.Need-is-consistent-requires
+is-consistent-requires : tie.Need-is_consistent-requires
 is-consistent-requires c κs =
     let t = c.before.before.before.before.before in
     let T = tables t.before.before.before.before in
@@ -37,30 +37,30 @@ is-consistent-requires c κs =
       (length-take-le _ _ s.few_terms ∙ sym n, length-take-le _ _ s.few_terms ∙ sym n),
     )
 
-decides : (c : tie.After-is-consistent) → is_contradictory (counted_set (tables c.before.before.before.before.before.before.before.before.before.before)) ≡ not c.is-consistent.result
+decides : (c : tie.After-is_consistent) → is_contradictory (counted_set (tables c.before.before.before.before.before.before.before.before.before.before)) ≡ not c.is-consistent.result
 decides c =
     let t = c.before.before.before.before.before.before in
     let T = tables t.before.before.before.before in
     let s = sizes t in
     let m = length-take-le T.propositions.count T.propositions.rows s.propositions_long in
-    decided_all (counted_set T) (counted_accepted T (sizes t) (no_records_fault T (passed t))) c.is-consistent.result (λ k h. get_or-replicate 512 k 1 0 (omega (arith, m, s.few_propositions))) c.is-consistent.ensures
+    decided_all (counted_set T) (counted_accepted T (sizes t) (no_records_fault T (passed t))) c.is_consistent.result (λ k h. get_or-replicate 512 k 1 0 (omega (arith, m, s.few_propositions))) c.is_consistent.ensures
 
-returns-2 : tie.Need-returns-2
+returns-2 : tie.Need-returns-then-not-is_consistent
 returns-2 c =
     let d = c.before.before.before in
     let t = d.before.before.before.before.before.before in
-    verdict_decided (tables t.before.before.before.before) (passed t) false (rw (not-true d.is-consistent.result c.if1.true) at (decides d))
+    verdict_decided (tables t.before.before.before.before) (passed t) false (rw (not-true d.is_consistent.result c.if-not-is_consistent.true) at (decides d))
     ∙ unasked_verdict _ _ _ _ _
 
-returns-3 : tie.Need-returns-3
+returns-3 : tie.Need-returns
 returns-3 c =
     let d = c.before.before.before in
     let t = d.before.before.before.before.before.before in
-    verdict_decided (tables t.before.before.before.before) (passed t) true (rw (not-false d.is-consistent.result c.if1.false) at (decides d))
+    verdict_decided (tables t.before.before.before.before) (passed t) true (rw (not-false d.is_consistent.result c.if-not-is_consistent.false) at (decides d))
     ∙ unasked_verdict _ _ _ _ _
 
-pub verdict-spec : {M : Type 1} → statement M
-verdict-spec =
+pub verdict_spec : {M : Type 1} → statement M
+verdict_spec =
     tie.close
     (tie.spec
     (λ c. search rules)

@@ -7,10 +7,10 @@ use Rattle.tables.proofs.proposition_at.Tie as tie
 
 returns : tie.Need-returns
 unfolding proposition_of_row
-returns c = rw (to_z-of_z w64 c.before.signed.result (sfits_of c.before.signed.type-inv), c.before.signed.ensures)
+returns c = rw (to_z-of_z w64 c.before.signed.result (sfits_of c.before.signed.type_inv), c.before.signed.ensures)
 
-pub proposition-at-spec : {M : Type 1} → statement M
-proposition-at-spec =
+pub proposition_at_spec : {M : Type 1} → statement M
+proposition_at_spec =
     tie.close
     (tie.spec
     (λ c. search rules)

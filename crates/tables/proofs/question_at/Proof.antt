@@ -7,10 +7,10 @@ use Rattle.tables.proofs.question_at.Tie as tie
 
 returns : tie.Need-returns
 unfolding question_of_row
-returns c = rw (to_z-of_z w64 c.before.signed.result (sfits_of c.before.signed.type-inv), c.before.signed.ensures)
+returns c = rw (to_z-of_z w64 c.before.signed.result (sfits_of c.before.signed.type_inv), c.before.signed.ensures)
 
-pub question-at-spec : {M : Type 1} → statement M
-question-at-spec =
+pub question_at_spec : {M : Type 1} → statement M
+question_at_spec =
     tie.close
     (tie.spec
     (λ c. search rules)

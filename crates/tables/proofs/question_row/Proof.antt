@@ -7,7 +7,7 @@ use Rattle.tables.proofs.question_row.Tie as tie
 
 returns : tie.Need-returns
 unfolding row_of_question
-returns c = rw (c.bits.ensures, to_z-of_z w64 c.before.before.args.r.offset (sfits_of c.before.struct_told.given.1.0.1))
+returns c = rw (c.bits.ensures, to_z-of_z w64 c.before.before.args.r.offset (sfits_of c.before.struct_told-1.given.1.0.1))
 
-pub question-row-spec : {M : Type 1} → statement M
-question-row-spec = tie.close (tie.spec (λ c κs. search rules) returns)
+pub question_row_spec : {M : Type 1} → statement M
+question_row_spec = tie.close (tie.spec (λ c κs. search rules) returns)

@@ -7,10 +7,10 @@ use Rattle.tables.proofs.term_at.Tie as tie
 
 returns : tie.Need-returns
 unfolding term_of_row
-returns c = rw (to_z-of_z w64 c.signed.result (sfits_of c.signed.type-inv), c.signed.ensures)
+returns c = rw (to_z-of_z w64 c.signed.result (sfits_of c.signed.type_inv), c.signed.ensures)
 
-pub term-at-spec : {M : Type 1} → statement M
-term-at-spec =
+pub term_at_spec : {M : Type 1} → statement M
+term_at_spec =
     tie.close
     (tie.spec
     (λ c. search rules)

@@ -7,7 +7,7 @@ use Rattle.tables.proofs.term_row.Tie as tie
 
 returns : tie.Need-returns
 unfolding row_of_term
-returns c = rw (c.bits.ensures, to_z-of_z w64 c.before.before.args.r.offset (sfits_of c.before.struct_told.given.1.1.0.1))
+returns c = rw (c.bits.ensures, to_z-of_z w64 c.before.before.args.r.offset (sfits_of c.before.struct_told-1.given.1.1.0.1))
 
-pub term-row-spec : {M : Type 1} → statement M
-term-row-spec = tie.close (tie.spec (λ c κs. search rules) returns)
+pub term_row_spec : {M : Type 1} → statement M
+term_row_spec = tie.close (tie.spec (λ c κs. search rules) returns)

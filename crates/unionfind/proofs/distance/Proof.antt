@@ -17,15 +17,15 @@ difference-requires : tie.Need-difference-requires
 difference-requires c κs =
     let s = c.before in
     let e = rw (to_z-of_z w64 s.args.z s.ranges.z, to_z-of_z w64 s.args.y s.ranges.y) at c.sum.ensures in
-    rw (to_z-of_z w64 c.sum.result (sfits_of c.sum.type-inv), to_z-of_z w64 s.args.x s.ranges.x, e)
+    rw (to_z-of_z w64 c.sum.result (sfits_of c.sum.type_inv), to_z-of_z w64 s.args.x s.ranges.x, e)
     (within_fits (omega arith) (within_difference (within_sum s.requires.1.0 s.requires.1.1) s.requires.0))
 
 returns : tie.Need-returns
 returns c =
     let s = c.before.before in
     let e = rw (to_z-of_z w64 s.args.z s.ranges.z, to_z-of_z w64 s.args.y s.ranges.y) at c.before.sum.ensures in
-    rw (to_z-of_z w64 c.difference.result (sfits_of c.difference.type-inv))
-    (rw (to_z-of_z w64 c.before.sum.result (sfits_of c.before.sum.type-inv), to_z-of_z w64 s.args.x s.ranges.x, e) at c.difference.ensures)
+    rw (to_z-of_z w64 c.difference.result (sfits_of c.difference.type_inv))
+    (rw (to_z-of_z w64 c.before.sum.result (sfits_of c.before.sum.type_inv), to_z-of_z w64 s.args.x s.ranges.x, e) at c.difference.ensures)
 
-pub distance-spec : {M : Type 1} → statement M
-distance-spec = tie.close (tie.spec sum-requires difference-requires returns)
+pub distance_spec : {M : Type 1} → statement M
+distance_spec = tie.close (tie.spec sum-requires difference-requires returns)

@@ -6,39 +6,39 @@ use Rattle.unionfind.specs.Turns.{Flattening, flattening_start, flattening_skip,
 use Rattle.unionfind.proofs.flatten.Statement.{statement}
 use Rattle.unionfind.proofs.flatten.Tie as tie
 
-abbrev invariant-loop : tie.invariant-loop
+abbrev invariant-loop : tie.invariant-loop-t
 invariant-loop parents₀ offsets₀ t₀ t-end parents offsets t = Flattening parents₀ offsets₀ parents offsets t
 
-abbrev decreases-loop : tie.decreases-loop
+abbrev decreases-loop : tie.decreases-loop-t
 decreases-loop parents₀ offsets₀ t₀ t-end parents offsets t = length parents₀ - t
 
-loop-holds : tie.Need-loop-init invariant-loop decreases-loop
+loop-holds : tie.Need-loop-t-init invariant-loop decreases-loop
 loop-holds c = flattening_start c.before.requires.0
 
-cast-if1 : tie.Need-overflow-cast-if1 invariant-loop decreases-loop
-cast-if1 c = let l = c.before.before in omega (arith, l.loop.invariant.links.falls l.loop.t)
+cast-if1 : tie.Need-overflow_cast-parents invariant-loop decreases-loop
+cast-if1 c = let l = c.before.before in omega (arith, l.loop-t.invariant.links.falls l.loop-t.t)
 
-loop-again : tie.Need-loop-preserved invariant-loop decreases-loop
-loop-again c = flattening_skip c.before.before.before.loop.invariant (omega arith) c.if1.true
+loop-again : tie.Need-loop-t-preserved-then-parents-t invariant-loop decreases-loop
+loop-again c = flattening_skip c.before.before.before.loop-t.invariant (omega arith) c.if-parents-t.true
 
 halve-requires : tie.Need-halve-requires invariant-loop decreases-loop
 halve-requires c κs =
     let l = c.before.before.before.before.before in
     let s = c.before.before.before.before.before.before.before in
-    ((l.loop.invariant.links, rw (l.loop.invariant.long, l.loop.invariant.same) s.requires.1), (omega arith, c.before.before.if1.false))
+    ((l.loop-t.invariant.links, rw (l.loop-t.invariant.long, l.loop-t.invariant.same) s.requires.1), (omega arith, c.before.before.if-parents-t.false))
 
-loop-again-2 : tie.Need-loop-preserved-2 invariant-loop decreases-loop
+loop-again-2 : tie.Need-loop-t-preserved invariant-loop decreases-loop
 loop-again-2 c =
     let halved = c.before.before.before in
     let tested = halved.before.before.before in
     let l = tested.before.before.before in
-    flattening_next l.loop.invariant (omega arith) tested.if1.false halved.halve.ensures
+    flattening_next l.loop-t.invariant (omega arith) tested.if-parents-t.false halved.halve.ensures
 
 returns : tie.Need-returns invariant-loop decreases-loop
-returns c = let l = c.before in flattened l.loop.invariant c.before.before.before.requires.0.same_length (omega arith)
+returns c = let l = c.before in flattened l.loop-t.invariant c.before.before.before.requires.0.same_length (omega arith)
 
-pub flatten-spec : {M : Type 1} → statement M
-flatten-spec =
+pub flatten_spec : {M : Type 1} → statement M
+flatten_spec =
     tie.close
     (tie.spec
     invariant-loop

@@ -18,14 +18,14 @@ distance-requires c κs =
     let ez = to_z-of_z w64 s.args.z s.ranges.z in
     rw (ex, ez, ey) w
 
-join-roots-requires : tie.Need-join-roots-requires
+join-roots-requires : tie.Need-join_roots-requires
 join-roots-requires c κs =
     let s = c.before.before.before.before.before.before in
     let w = s.requires.1.1 in
     let ex = to_z-of_z w64 s.args.x.offset (within_fits (omega arith) w.0) in
     let ey = to_z-of_z w64 s.args.y.offset (within_fits (omega arith) w.1.1) in
     let ez = to_z-of_z w64 s.args.z s.ranges.z in
-    let e = to_z-of_z w64 _ (sfits_of c.distance.type-inv) ∙ rw (ez, ey, ex) at c.distance.ensures in
+    let e = to_z-of_z w64 _ (sfits_of c.distance.type_inv) ∙ rw (ez, ey, ex) at c.distance.ensures in
     (s.requires.0, (s.requires.1.0.0, (s.requires.1.0.1, rw e (within_difference (within_sum w.1.0 w.1.1) w.0))))
 
 returns : tie.Need-returns
@@ -36,9 +36,9 @@ returns c =
     let ey = to_z-of_z w64 s.args.y.offset (within_fits (omega arith) w.1.1) in
     let ez = to_z-of_z w64 s.args.z s.ranges.z in
     let d = c.before.before.before.before.distance in
-    let e = to_z-of_z w64 _ (sfits_of d.type-inv) ∙ rw (ez, ey, ex) at d.ensures in
-    rw e at c.before.before.before.join-roots.ensures
+    let e = to_z-of_z w64 _ (sfits_of d.type_inv) ∙ rw (ez, ey, ex) at d.ensures in
+    rw e at c.before.before.before.join_roots.ensures
 
-pub join-found-spec : {M : Type 1} → statement M
-join-found-spec =
+pub join_found_spec : {M : Type 1} → statement M
+join_found_spec =
     tie.close (tie.spec distance-requires join-roots-requires (λ c. search rules) (λ c. search rules) returns)

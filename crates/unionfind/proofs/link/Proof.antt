@@ -11,8 +11,8 @@ returns c =
     rw (to_z-of_z w64 c.args.d c.ranges.d)
     (linking c.args.from c.args.d c.args.to c.requires.0.0 c.requires.0.1.0 c.requires.0.1.1 c.requires.1.0 c.requires.1.1)
 
-pub link-spec : {M : Type 1} → statement M
-link-spec =
+pub link_spec : {M : Type 1} → statement M
+link_spec =
     tie.close
     (tie.spec
     (λ c. search rules)

@@ -8,25 +8,25 @@ use Rattle.words.proofs.mask_word.Reads as mask-word-reads
 use Rattle.words.proofs.word_at.Reads as word-at-reads
 
 -- src/lib.rt:211:20
-add-word-at : tie.Need-overflow-add-word-at
+add-word-at : tie.Need-overflow_add-start
 add-word-at c = search rules
 
 -- src/lib.rt:211:5
-word-at-requires : tie.Need-word-at-requires
+word-at-requires : tie.Need-word_at-requires
 word-at-requires c κs = search rules
 
 -- src/lib.rt:211:34
-mask-word-requires : tie.Need-mask-word-requires
+mask-word-requires : tie.Need-mask_word-requires
 mask-word-requires c κs = search rules
 
 -- src/lib.rt:211:34
-shr-result : tie.Need-overflow-shr-result
+shr-result : tie.Need-overflow_shr-result
 shr-result c = search rules
 
 -- src/lib.rt:207:1
 returns : tie.Need-returns
 returns c = common_is c.before.word_at.ensures c.mask_word.ensures.0 c.mask_word.ensures.1
 
-pub common-spec : {M : Type 1} → statement M
-common-spec =
+pub common_spec : {M : Type 1} → statement M
+common_spec =
     tie.close (tie.spec add-word-at word-at-requires mask-word-requires shr-result returns)

@@ -8,5 +8,5 @@ returns : tie.Need-returns
 unfolding in_mask is_bit_one
 returns c = rw c.mask_word.ensures.0
 
-pub contains-spec : {M : Type 1} → statement M
-contains-spec = tie.close (tie.spec (λ c κs. search rules) (λ c. search rules) returns)
+pub contains_spec : {M : Type 1} → statement M
+contains_spec = tie.close (tie.spec (λ c κs. search rules) (λ c. search rules) returns)

@@ -9,11 +9,11 @@ use Rattle.words.proofs.mask_word.Lts as lts
 use Rattle.words.proofs.word.Reads as word-reads
 
 -- src/lib.rt:172:21
-mul-word : tie.Need-overflow-mul-word
+mul-word : tie.Need-offset_bounds-mask-w
 mul-word c = search rules
 
 -- src/lib.rt:172:21
-shared-slice-read-word : tie.Need-shared-slice-read-word
+shared-slice-read-word : tie.Need-bounds-mask-w
 shared-slice-read-word c = search rules
 
 -- src/lib.rt:172:9
@@ -21,13 +21,13 @@ word-requires : tie.Need-word-requires
 word-requires c κs = search rules
 
 -- src/lib.rt:172:9
-returns : tie.Need-returns
+returns : tie.Need-returns-then-w-mask
 returns c = search rules
 
 -- src/lib.rt:168:1
-returns-2 : tie.Need-returns-2
-returns-2 c = let a = c.before.before.args in (sym (get_or-eq_default a.mask.now 0 c.if1.false), omega arith)
+returns-2 : tie.Need-returns
+returns-2 c = let a = c.before.before.args in (sym (get_or-eq_default a.mask.now 0 c.if-w-mask.false), omega arith)
 
-pub mask-word-spec : {M : Type 1} → statement M
-mask-word-spec =
+pub mask_word_spec : {M : Type 1} → statement M
+mask_word_spec =
     tie.close (tie.spec mul-word shared-slice-read-word word-requires returns returns-2)

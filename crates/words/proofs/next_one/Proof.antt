@@ -4,11 +4,11 @@ use Rattle.words.specs.Words.{next_lowest, next_none}
 use Rattle.words.proofs.next_one.Statement.{statement}
 use Rattle.words.proofs.next_one.Tie as tie
 
-pub next-one-spec : {M : Type 1} → statement M
-next-one-spec =
+pub next_one_spec : {M : Type 1} → statement M
+next_one_spec =
     tie.close
     (tie.spec
-    (λ c. next_none c.before.args.word c.if1.true)
+    (λ c. next_none c.before.args.word c.if-from-eq64.true)
     (λ c. search rules)
     (λ c κs. search rules)
     (λ c. search rules)

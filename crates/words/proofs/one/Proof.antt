@@ -7,7 +7,7 @@ use Rattle.words.proofs.one.Lts as lts
 use Rattle.words.proofs.wide.Reads as wide-reads
 
 -- src/lib.rt:27:10
-shared-slice-read-wide : tie.Need-shared-slice-read-wide
+shared-slice-read-wide : tie.Need-bounds-bytes-k
 shared-slice-read-wide c = search rules
 
 -- src/lib.rt:27:5

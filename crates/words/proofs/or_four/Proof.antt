@@ -7,25 +7,25 @@ use Rattle.words.proofs.or_four.Lts as lts
 use Rattle.words.proofs.or_two.Reads as or-two-reads
 
 -- src/lib.rt:101:5
-or-two-requires : tie.Need-or-two-requires
+or-two-requires : tie.Need-or_two-requires
 or-two-requires c κs = search rules
 
 -- src/lib.rt:102:19
-add-or-two : tie.Need-overflow-add-or-two
+add-or-two : tie.Need-overflow_add-k
 add-or-two c = search rules
 
 -- src/lib.rt:102:5
-or-two-requires-2 : tie.Need-or-two-requires-2
+or-two-requires-2 : tie.Need-or_two-requires-2
 or-two-requires-2 c κs = search rules
 
 -- src/lib.rt:97:1
-same_length : tie.Need-same-length
+same_length : tie.Need-shape_of-bytes
 same_length c = search rules
 
 -- src/lib.rt:97:1
 returns : tie.Need-returns
-returns c = ored_halves 2 c.before.before.before.before.before.before.before.before.before.args.k c.before.before.before.before.before.before.or-two.ensures c.before.before.or-two2.ensures
+returns c = ored_halves 2 c.before.before.before.before.before.before.before.before.before.args.k c.before.before.before.before.before.before.or_two.ensures c.before.before.or_two-2.ensures
 
-pub or-four-spec : {M : Type 1} → statement M
-or-four-spec =
+pub or_four_spec : {M : Type 1} → statement M
+or_four_spec =
     tie.close (tie.spec or-two-requires add-or-two or-two-requires-2 same_length returns)

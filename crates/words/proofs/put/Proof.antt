@@ -6,27 +6,27 @@ use Rattle.words.proofs.put.Reads as reads
 use Rattle.words.proofs.put.Lts as lts
 
 -- src/lib.rt:177:15
-mul-mask : tie.Need-overflow-mul-mask
+mul-mask : tie.Need-offset_bounds-mask-w
 mul-mask c = search rules
 
 -- src/lib.rt:177:15
-slice-read-mask : tie.Need-slice-read-mask
+slice-read-mask : tie.Need-bounds-mask-w
 slice-read-mask c = search rules
 
 -- src/lib.rt:177:26
-shl-mask : tie.Need-overflow-shl-mask
+shl-mask : tie.Need-overflow_shl-mask
 shl-mask c = search rules
 
 -- src/lib.rt:177:5
-mul-mask-2 : tie.Need-overflow-mul-mask-2
+mul-mask-2 : tie.Need-offset_bounds-mask-w-2
 mul-mask-2 c = search rules
 
 -- src/lib.rt:177:5
-slice-write-mask : tie.Need-slice-write-mask
+slice-write-mask : tie.Need-bounds-mask-w-2
 slice-write-mask c = search rules
 
 -- src/lib.rt:172:1
-same_length : tie.Need-same-length
+same_length : tie.Need-shape_of-mask
 same_length c = search rules
 
 -- src/lib.rt:172:1

@@ -7,7 +7,7 @@ use Rattle.words.proofs.two.Lts as lts
 use Rattle.words.proofs.one.Reads as one-reads
 
 -- src/lib.rt:34:16
-add-one : tie.Need-overflow-add-one
+add-one : tie.Need-overflow_add-k
 add-one c = search rules
 
 -- src/lib.rt:34:5
@@ -15,7 +15,7 @@ one-requires : tie.Need-one-requires
 one-requires c κs = search rules
 
 -- src/lib.rt:34:5
-mul-result : tie.Need-overflow-mul-result
+mul-result : tie.Need-overflow_mul-result
 mul-result c = search rules
 
 -- src/lib.rt:34:33
@@ -23,12 +23,12 @@ one-requires-2 : tie.Need-one-requires-2
 one-requires-2 c κs = search rules
 
 -- src/lib.rt:34:5
-add-result : tie.Need-overflow-add-result
+add-result : tie.Need-overflow_add-result
 add-result c = search rules
 
 -- src/lib.rt:30:1
 returns : tie.Need-returns
-returns c = spells_halves 1 c.before.before.before.args.k c.one2.ensures c.before.one.ensures
+returns c = spells_halves 1 c.before.before.before.args.k c.one-2.ensures c.before.one.ensures
 
-pub two-spec : {M : Type 1} → statement M
-two-spec = tie.close (tie.spec add-one one-requires mul-result one-requires-2 add-result returns)
+pub two_spec : {M : Type 1} → statement M
+two_spec = tie.close (tie.spec add-one one-requires mul-result one-requires-2 add-result returns)

@@ -12,34 +12,34 @@ use Rattle.words.proofs.last_word.Reads as last-word-reads
 use Rattle.words.proofs.one.Reads as one-reads
 
 -- src/lib.rt:79:23
-add-if1 : tie.Need-overflow-add-if1
+add-if1 : tie.Need-overflow_add-k
 add-if1 c = search rules
 
 -- src/lib.rt:80:9
-last-word-requires : tie.Need-last-word-requires
+last-word-requires : tie.Need-last_word-requires
 last-word-requires c κs = search rules
 
 -- src/lib.rt:80:9
-returns : tie.Need-returns
+returns : tie.Need-returns-then-bytes-k
 returns c = search rules
 
 -- src/lib.rt:82:9
-eight-requires : tie.Need-eight-requires
+eight-requires : tie.Need-eight-low-requires
 eight-requires c κs = search rules
 
 -- src/lib.rt:84:9
-returns-2 : tie.Need-returns-2
+returns-2 : tie.Need-returns-then-s-eq0
 returns-2 c =
     let a = c.before.before.before.before.args in
-    let e : 8 * (a.at / 8) ≡ a.at = omega (arith, c.if2.true) in
-    rw e at c.before.eight.ensures
+    let e : 8 * (a.at / 8) ≡ a.at = omega (arith, c.if-s-eq0.true) in
+    rw e at c.before.eight-low.ensures
 
 -- src/lib.rt:86:6
-shr-result : tie.Need-overflow-shr-result
+shr-result : tie.Need-overflow_shr-result
 shr-result c = search rules
 
 -- src/lib.rt:86:30
-add-one : tie.Need-overflow-add-one
+add-one : tie.Need-overflow_add-k-2
 add-one c = search rules
 
 -- src/lib.rt:86:19
@@ -47,23 +47,23 @@ one-requires : tie.Need-one-requires
 one-requires c κs = search rules
 
 -- src/lib.rt:86:41
-sub-result : tie.Need-overflow-sub-result
+sub-result : tie.Need-overflow_sub-result
 sub-result c = search rules
 
 -- src/lib.rt:86:19
-shl-result : tie.Need-overflow-shl-result
+shl-result : tie.Need-overflow_shl-result
 shl-result c = search rules
 
 -- src/lib.rt:73:1
-returns-3 : tie.Need-returns-3
+returns-3 : tie.Need-returns
 returns-3 c =
     let a = c.before.before.before.before.before.args in
     let k = a.at / 8 in
     let e : 8 * k + a.at % 8 ≡ a.at = omega arith in
-    rw e at (spells_inside k (a.at % 8) (omega (arith, c.before.if2.false)) (omega arith) c.before.before.eight.ensures c.one.ensures)
+    rw e at (spells_inside k (a.at % 8) (omega (arith, c.before.if-s-eq0.false)) (omega arith) c.before.before.eight-low.ensures c.one.ensures)
 
-pub word-at-spec : {M : Type 1} → statement M
-word-at-spec =
+pub word_at_spec : {M : Type 1} → statement M
+word_at_spec =
     tie.close
     (tie.spec
     add-if1

@@ -7,5 +7,5 @@ use Rattle.writer.proofs.byte_of.Tie as tie
 returns : tie.Need-returns
 returns c = rw (byte_shift c.args.k)
 
-pub byte-of-spec : {M : Type 1} → statement M
-byte-of-spec = tie.close (tie.spec (λ c. search rules) (λ c. search rules) (λ c. search rules) (λ c. search rules) returns)
+pub byte_of_spec : {M : Type 1} → statement M
+byte_of_spec = tie.close (tie.spec (λ c. search rules) (λ c. search rules) (λ c. search rules) (λ c. search rules) returns)

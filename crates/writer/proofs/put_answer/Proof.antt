@@ -4,16 +4,16 @@ use borrow.Author.Rules.{rules}
 use Rattle.writer.proofs.put_answer.Statement.{statement}
 use Rattle.writer.proofs.put_answer.Tie as tie
 
-put-line-requires : tie.Need-put-line-requires
+put-line-requires : tie.Need-put_line-requires
 unfolding bytes
-put-line-requires c κs = rw (c.before.before.before.byte_of.ensures, c.before.before.byte-of2.ensures) c.before.before.before.before.before.requires
+put-line-requires c κs = rw (c.before.before.before.byte_of.ensures, c.before.before.byte_of-2.ensures) c.before.before.before.before.before.requires
 
 returns : tie.Need-returns
 unfolding bytes
-returns c = rw (c.before.before.before.before.before.before.byte_of.ensures, c.before.before.before.before.before.byte-of2.ensures) at c.before.before.put-line.ensures
+returns c = rw (c.before.before.before.before.before.before.byte_of.ensures, c.before.before.before.before.before.byte_of-2.ensures) at c.before.before.put_line.ensures
 
-pub put-answer-spec : {M : Type 1} → statement M
-put-answer-spec =
+pub put_answer_spec : {M : Type 1} → statement M
+put_answer_spec =
     tie.close
     (tie.spec
     (λ c κs. search rules)

@@ -6,21 +6,21 @@ use borrow.Author.Rules.{rules}
 use Rattle.writer.proofs.put_blamed.Statement.{statement}
 use Rattle.writer.proofs.put_blamed.Tie as tie
 
-returns : tie.Need-returns
-returns c = rw (blame_unmarked c.before.before.args.proposition.0 c.before.before.args.mark c.if1.true) (appended_none _ _)
+returns : tie.Need-returns-then-mark-eq0
+returns c = rw (blame_unmarked c.before.before.args.proposition.0 c.before.before.args.mark c.if-mark-eq0.true) (appended_none _ _)
 
-put-line-requires : tie.Need-put-line-requires
+put-line-requires : tie.Need-put_line-requires
 unfolding bytes
 put-line-requires c κs = let s = c.before.before.before.before.before.before in
-    rw (c.before.before.before.byte_of.ensures, c.before.before.byte-of2.ensures) (rw (blame_marked s.args.proposition.0 s.args.mark c.before.before.before.before.if1.false) at s.requires)
+    rw (c.before.before.before.byte_of.ensures, c.before.before.byte_of-2.ensures) (rw (blame_marked s.args.proposition.0 s.args.mark c.before.before.before.before.if-mark-eq0.false) at s.requires)
 
-returns-2 : tie.Need-returns-2
+returns-2 : tie.Need-returns
 unfolding bytes
 returns-2 c = let s = c.before.before.before.before.before.before.before.before.before in
-    rw (blame_marked s.args.proposition.0 s.args.mark c.before.before.before.before.before.before.before.if1.false) (rw (c.before.before.before.before.before.before.byte_of.ensures, c.before.before.before.before.before.byte-of2.ensures) at c.before.before.put-line.ensures)
+    rw (blame_marked s.args.proposition.0 s.args.mark c.before.before.before.before.before.before.before.if-mark-eq0.false) (rw (c.before.before.before.before.before.before.byte_of.ensures, c.before.before.before.before.before.byte_of-2.ensures) at c.before.before.put_line.ensures)
 
-pub put-blamed-spec : {M : Type 1} → statement M
-put-blamed-spec =
+pub put_blamed_spec : {M : Type 1} → statement M
+put_blamed_spec =
     tie.close
     (tie.spec
     returns

@@ -6,24 +6,24 @@ use borrow.Author.Rules.{rules}
 use Rattle.writer.proofs.put_contradictory_set.Statement.{statement}
 use Rattle.writer.proofs.put_contradictory_set.Tie as tie
 
-put-contradiction-requires : tie.Need-put-contradiction-requires
+put-contradiction-requires : tie.Need-put_contradiction-blame-requires
 put-contradiction-requires c κs = let s = c.before.before.before.before in
     first_fits s.args.out.now (verdict_frame Contradiction) (blame_frames s.args.marks.now) (answer_frames s.args.answers.now) s.requires
 
-put-cells-requires : tie.Need-put-cells-requires
+put-cells-requires : tie.Need-put_cells-questions-requires
 put-cells-requires c κs = let s = c.before.before.before.before.before.before.before.before in
-    second_fits s.args.out.now (verdict_frame Contradiction) (blame_frames s.args.marks.now) (answer_frames s.args.answers.now) s.requires _ _ c.before.before.before.put-contradiction.ensures
+    second_fits s.args.out.now (verdict_frame Contradiction) (blame_frames s.args.marks.now) (answer_frames s.args.answers.now) s.requires _ _ c.before.before.before.put_contradiction-blame.ensures
 
-put-cells-requires-2 : tie.Need-put-cells-requires-2
+put-cells-requires-2 : tie.Need-put_cells-requires
 put-cells-requires-2 c κs = let s = c.before.before.before.before.before.before.before.before.before.before.before.before in
-    third_fits s.args.out.now (verdict_frame Contradiction) (blame_frames s.args.marks.now) (answer_frames s.args.answers.now) s.requires _ _ c.before.before.before.before.before.before.before.put-contradiction.ensures _ _ c.before.before.before.put-cells.ensures
+    third_fits s.args.out.now (verdict_frame Contradiction) (blame_frames s.args.marks.now) (answer_frames s.args.answers.now) s.requires _ _ c.before.before.before.before.before.before.before.put_contradiction-blame.ensures _ _ c.before.before.before.put_cells-questions.ensures
 
 returns : tie.Need-returns
 returns c = let s = c.before.before.before.before.before.before.before.before.before.before.before.before.before.before.before in
-    all_written s.args.out.now (verdict_frame Contradiction) (blame_frames s.args.marks.now) (answer_frames s.args.answers.now) s.requires _ _ c.before.before.before.before.before.before.before.before.before.before.put-contradiction.ensures _ _ c.before.before.before.before.before.before.put-cells.ensures _ _ c.before.before.put-cells2.ensures
+    all_written s.args.out.now (verdict_frame Contradiction) (blame_frames s.args.marks.now) (answer_frames s.args.answers.now) s.requires _ _ c.before.before.before.before.before.before.before.before.before.before.put_contradiction-blame.ensures _ _ c.before.before.before.before.before.before.put_cells-questions.ensures _ _ c.before.before.put_cells.ensures
 
-pub put-contradictory-set-spec : {M : Type 1} → statement M
-put-contradictory-set-spec =
+pub put_contradictory_set_spec : {M : Type 1} → statement M
+put_contradictory_set_spec =
     tie.close
     (tie.spec
     put-contradiction-requires

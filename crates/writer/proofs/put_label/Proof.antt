@@ -7,16 +7,16 @@ use borrow.Author.Rules.{rules}
 use Rattle.writer.proofs.put_label.Statement.{statement}
 use Rattle.writer.proofs.put_label.Tie as tie
 
-put-line-requires : tie.Need-put-line-requires
+put-line-requires : tie.Need-put_line-requires
 unfolding bytes
-put-line-requires c κs = rw (c.before.before.before.before.before.before.before.before.before.before.before.before.before.byte_of.ensures, c.before.before.before.before.before.before.before.before.before.before.before.before.byte-of2.ensures, c.before.before.before.before.before.before.before.before.before.before.before.byte-of3.ensures, c.before.before.before.before.before.before.before.before.before.before.byte-of4.ensures, c.before.before.before.before.before.before.before.before.before.byte-of5.ensures, c.before.before.before.before.before.before.before.before.byte-of6.ensures, c.before.before.before.before.before.before.before.byte-of7.ensures, c.before.before.before.before.before.before.byte-of8.ensures, c.before.before.before.before.before.byte-of9.ensures, c.before.before.before.before.byte-of10.ensures, c.before.before.before.byte-of11.ensures, c.before.before.byte-of12.ensures, c.before.before.before.before.before.before.before.before.before.before.before.before.before.before.bits.ensures, to_z-of_z w64 c.before.before.before.before.before.before.before.before.before.before.before.before.before.before.before.before.args.offset c.before.before.before.before.before.before.before.before.before.before.before.before.before.before.before.before.ranges.offset, bits_unsigned c.before.before.before.before.before.before.before.before.before.before.before.before.before.before.before.before.args.offset) c.before.before.before.before.before.before.before.before.before.before.before.before.before.before.before.before.requires
+put-line-requires c κs = rw (c.before.before.before.before.before.before.before.before.before.before.before.before.before.byte_of.ensures, c.before.before.before.before.before.before.before.before.before.before.before.before.byte_of-2.ensures, c.before.before.before.before.before.before.before.before.before.before.before.byte_of-3.ensures, c.before.before.before.before.before.before.before.before.before.before.byte_of-4.ensures, c.before.before.before.before.before.before.before.before.before.byte_of-5.ensures, c.before.before.before.before.before.before.before.before.byte_of-6.ensures, c.before.before.before.before.before.before.before.byte_of-7.ensures, c.before.before.before.before.before.before.byte_of-8.ensures, c.before.before.before.before.before.byte_of-9.ensures, c.before.before.before.before.byte_of-10.ensures, c.before.before.before.byte_of-11.ensures, c.before.before.byte_of-12.ensures, c.before.before.before.before.before.before.before.before.before.before.before.before.before.before.bits-o.ensures, to_z-of_z w64 c.before.before.before.before.before.before.before.before.before.before.before.before.before.before.before.before.args.offset c.before.before.before.before.before.before.before.before.before.before.before.before.before.before.before.before.ranges.offset, bits_unsigned c.before.before.before.before.before.before.before.before.before.before.before.before.before.before.before.before.args.offset) c.before.before.before.before.before.before.before.before.before.before.before.before.before.before.before.before.requires
 
 returns : tie.Need-returns
 unfolding bytes
-returns c = rw (c.before.before.before.before.before.before.before.before.before.before.before.before.before.before.before.before.byte_of.ensures, c.before.before.before.before.before.before.before.before.before.before.before.before.before.before.before.byte-of2.ensures, c.before.before.before.before.before.before.before.before.before.before.before.before.before.before.byte-of3.ensures, c.before.before.before.before.before.before.before.before.before.before.before.before.before.byte-of4.ensures, c.before.before.before.before.before.before.before.before.before.before.before.before.byte-of5.ensures, c.before.before.before.before.before.before.before.before.before.before.before.byte-of6.ensures, c.before.before.before.before.before.before.before.before.before.before.byte-of7.ensures, c.before.before.before.before.before.before.before.before.before.byte-of8.ensures, c.before.before.before.before.before.before.before.before.byte-of9.ensures, c.before.before.before.before.before.before.before.byte-of10.ensures, c.before.before.before.before.before.before.byte-of11.ensures, c.before.before.before.before.before.byte-of12.ensures, c.before.before.before.before.before.before.before.before.before.before.before.before.before.before.before.before.before.bits.ensures, to_z-of_z w64 c.before.before.before.before.before.before.before.before.before.before.before.before.before.before.before.before.before.before.before.args.offset c.before.before.before.before.before.before.before.before.before.before.before.before.before.before.before.before.before.before.before.ranges.offset, bits_unsigned c.before.before.before.before.before.before.before.before.before.before.before.before.before.before.before.before.before.before.before.args.offset) at c.before.before.put-line.ensures
+returns c = rw (c.before.before.before.before.before.before.before.before.before.before.before.before.before.before.before.before.byte_of.ensures, c.before.before.before.before.before.before.before.before.before.before.before.before.before.before.before.byte_of-2.ensures, c.before.before.before.before.before.before.before.before.before.before.before.before.before.before.byte_of-3.ensures, c.before.before.before.before.before.before.before.before.before.before.before.before.before.byte_of-4.ensures, c.before.before.before.before.before.before.before.before.before.before.before.before.byte_of-5.ensures, c.before.before.before.before.before.before.before.before.before.before.before.byte_of-6.ensures, c.before.before.before.before.before.before.before.before.before.before.byte_of-7.ensures, c.before.before.before.before.before.before.before.before.before.byte_of-8.ensures, c.before.before.before.before.before.before.before.before.byte_of-9.ensures, c.before.before.before.before.before.before.before.byte_of-10.ensures, c.before.before.before.before.before.before.byte_of-11.ensures, c.before.before.before.before.before.byte_of-12.ensures, c.before.before.before.before.before.before.before.before.before.before.before.before.before.before.before.before.before.bits-o.ensures, to_z-of_z w64 c.before.before.before.before.before.before.before.before.before.before.before.before.before.before.before.before.before.before.before.args.offset c.before.before.before.before.before.before.before.before.before.before.before.before.before.before.before.before.before.before.before.ranges.offset, bits_unsigned c.before.before.before.before.before.before.before.before.before.before.before.before.before.before.before.before.before.before.before.args.offset) at c.before.before.put_line.ensures
 
-pub put-label-spec : {M : Type 1} → statement M
-put-label-spec =
+pub put_label_spec : {M : Type 1} → statement M
+put_label_spec =
     tie.close
     (tie.spec
     (λ c κs. search rules)

@@ -5,16 +5,16 @@ use borrow.Author.Rules.{rules}
 use Rattle.writer.proofs.put_refusal.Statement.{statement}
 use Rattle.writer.proofs.put_refusal.Tie as tie
 
-put-line-requires : tie.Need-put-line-requires
+put-line-requires : tie.Need-put_line-requires
 unfolding bytes
-put-line-requires c κs = rw (c.before.before.before.before.refusal-number.ensures, c.before.before.before.byte_of.ensures, c.before.before.byte-of2.ensures) (omega (arith, c.before.before.before.before.before.before.requires))
+put-line-requires c κs = rw (c.before.before.before.before.refusal_number.ensures, c.before.before.before.byte_of.ensures, c.before.before.byte_of-2.ensures) (omega (arith, c.before.before.before.before.before.before.requires))
 
 returns : tie.Need-returns
 unfolding bytes
-returns c = rw (c.before.before.before.before.before.before.before.refusal-number.ensures, c.before.before.before.before.before.before.byte_of.ensures, c.before.before.before.before.before.byte-of2.ensures) at c.before.before.put-line.ensures
+returns c = rw (c.before.before.before.before.before.before.before.refusal_number.ensures, c.before.before.before.before.before.before.byte_of.ensures, c.before.before.before.before.before.byte_of-2.ensures) at c.before.before.put_line.ensures
 
-pub put-refusal-spec : {M : Type 1} → statement M
-put-refusal-spec =
+pub put_refusal_spec : {M : Type 1} → statement M
+put_refusal_spec =
     tie.close
     (tie.spec
     (λ c κs. search rules)

@@ -6,23 +6,23 @@ use borrow.Author.Rules.{rules}
 use Rattle.writer.proofs.put_satisfiable_set.Statement.{statement}
 use Rattle.writer.proofs.put_satisfiable_set.Tie as tie
 
-put-satisfiable-requires : tie.Need-put-satisfiable-requires
+put-satisfiable-requires : tie.Need-put_satisfiable-labels-requires
 put-satisfiable-requires c κs = let s = c.before.before.before.before in
     first_fits s.args.out.now (verdict_frame Satisfiable) (label_frames 0 s.args.representatives.now s.args.offsets.now) (answer_frames s.args.answers.now) s.requires.1
 
-put-labels-requires : tie.Need-put-labels-requires
+put-labels-requires : tie.Need-put_labels-questions-requires
 put-labels-requires c κs = let s = c.before.before.before.before.before.before.before.before in
-    (s.requires.0, second_fits s.args.out.now (verdict_frame Satisfiable) (label_frames 0 s.args.representatives.now s.args.offsets.now) (answer_frames s.args.answers.now) s.requires.1 _ _ c.before.before.before.put-satisfiable.ensures)
+    (s.requires.0, second_fits s.args.out.now (verdict_frame Satisfiable) (label_frames 0 s.args.representatives.now s.args.offsets.now) (answer_frames s.args.answers.now) s.requires.1 _ _ c.before.before.before.put_satisfiable-labels.ensures)
 
-put-cells-requires : tie.Need-put-cells-requires
+put-cells-requires : tie.Need-put_cells-requires
 put-cells-requires c κs = let s = c.before.before.before.before.before.before.before.before.before.before.before.before in
-    third_fits s.args.out.now (verdict_frame Satisfiable) (label_frames 0 s.args.representatives.now s.args.offsets.now) (answer_frames s.args.answers.now) s.requires.1 _ _ c.before.before.before.before.before.before.before.put-satisfiable.ensures _ _ c.before.before.before.put-labels.ensures
+    third_fits s.args.out.now (verdict_frame Satisfiable) (label_frames 0 s.args.representatives.now s.args.offsets.now) (answer_frames s.args.answers.now) s.requires.1 _ _ c.before.before.before.before.before.before.before.put_satisfiable-labels.ensures _ _ c.before.before.before.put_labels-questions.ensures
 
 returns : tie.Need-returns
 returns c = let s = c.before.before.before.before.before.before.before.before.before.before.before.before.before.before.before in
-    all_written s.args.out.now (verdict_frame Satisfiable) (label_frames 0 s.args.representatives.now s.args.offsets.now) (answer_frames s.args.answers.now) s.requires.1 _ _ c.before.before.before.before.before.before.before.before.before.before.put-satisfiable.ensures _ _ c.before.before.before.before.before.before.put-labels.ensures _ _ c.before.before.put-cells.ensures
+    all_written s.args.out.now (verdict_frame Satisfiable) (label_frames 0 s.args.representatives.now s.args.offsets.now) (answer_frames s.args.answers.now) s.requires.1 _ _ c.before.before.before.before.before.before.before.before.before.before.put_satisfiable-labels.ensures _ _ c.before.before.before.before.before.before.put_labels-questions.ensures _ _ c.before.before.put_cells.ensures
 
-pub put-satisfiable-set-spec : {M : Type 1} → statement M
-put-satisfiable-set-spec =
+pub put_satisfiable_set_spec : {M : Type 1} → statement M
+put_satisfiable_set_spec =
     tie.close
     (tie.spec put-satisfiable-requires put-labels-requires put-cells-requires (λ c. search rules) returns)

@@ -8,41 +8,41 @@ use Rattle.columns.specs.Asked.{RowsTold, rows_none, rows_more}
 use Rattle.columns.proofs.answering.answer_each.Statement.{statement}
 use Rattle.columns.proofs.answering.answer_each.Tie as tie
 
-abbrev invariant-loop : tie.invariant-loop
+abbrev invariant-loop : tie.invariant-loop-k
 invariant-loop n m questions reps offs heights reads read-heights class-first class-next slot-first slot_next sizes left-classes left-heights right-classes right-heights side-first side-next apart pairs answers₀ k₀ k-end answers k =
     (k ≤ length questions) × RowsTold n m reps offs reads read-heights left-classes left-heights right-classes right-heights apart pairs questions k answers
 
-abbrev decreases-loop : tie.decreases-loop
+abbrev decreases-loop : tie.decreases-loop-k
 decreases-loop n m questions reps offs heights reads read-heights class-first class-next slot-first slot_next sizes left-classes left-heights right-classes right-heights side-first side-next apart pairs answers₀ k₀ k-end answers k = length questions - k
 
-loop-holds : tie.Need-loop-init invariant-loop decreases-loop
+loop-holds : tie.Need-loop-k-init invariant-loop decreases-loop
 loop-holds c = let s = c.before.before.before.before.before.before.before.before.before.before.before.before.before.before.before.before.before.args in
     (omega arith, rows_none s.n s.m s.reps.now s.offs.now s.reads.now s.read-heights.now s.left-classes.now s.left-heights.now s.right-classes.now s.right-heights.now s.apart.now s.pairs.now c.before.before.before.before.before.before.before.before.before.before.before.before.before.before.before.before.before.requires.1.1.1.1)
 
-answer-one-requires : tie.Need-answer-one-requires invariant-loop decreases-loop
-answer-one-requires c κs = let p = c.before.before.before.before.before.before.before.before.before.before.before.before.before.before.before.before.before.before.before.requires in (p.0, (p.1.0, (p.1.1.0, c.loop-test.true)))
+answer-one-requires : tie.Need-answer_one-a-requires invariant-loop decreases-loop
+answer-one-requires c κs = let p = c.before.before.before.before.before.before.before.before.before.before.before.before.before.before.before.before.before.before.before.requires in (p.0, (p.1.0, (p.1.1.0, c.loop-k-test.true)))
 
-loop-again : tie.Need-loop-preserved invariant-loop decreases-loop
+loop-again : tie.Need-loop-k-preserved invariant-loop decreases-loop
 loop-again c = let s = c.before.before.before.before.before.before.before.before.before.before.before.before.before.before.before.before.before.before.before.before.before.args in
-    (omega (arith, c.before.before.loop-test.true), rows_more s.n s.m s.reps.now s.offs.now s.reads.now s.read-heights.now s.left-classes.now s.left-heights.now s.right-classes.now s.right-heights.now s.apart.now s.pairs.now c.before.before.before.loop.invariant.1 c.before.before.loop-test.true c.answer-number.ensures c.before.answer-one.ensures)
+    (omega (arith, c.before.before.loop-k-test.true), rows_more s.n s.m s.reps.now s.offs.now s.reads.now s.read-heights.now s.left-classes.now s.left-heights.now s.right-classes.now s.right-heights.now s.apart.now s.pairs.now c.before.before.before.loop-k.invariant.1 c.before.before.loop-k-test.true c.answer_number.ensures c.before.answer_one-a.ensures)
 
 returns : tie.Need-returns invariant-loop decreases-loop
-returns c = let e : c.before.loop.k ≡ length c.before.before.before.before.before.before.before.before.before.before.before.before.before.before.before.before.before.before.before.args.questions.now = omega (arith, c.before.loop.invariant.0, c.loop-test.false) in rw e at c.before.loop.invariant.1
+returns c = let e : c.before.loop-k.k ≡ length c.before.before.before.before.before.before.before.before.before.before.before.before.before.before.before.before.before.before.before.args.questions.now = omega (arith, c.before.loop-k.invariant.0, c.loop-k-test.false) in rw e at c.before.loop-k.invariant.1
 
-slice-write-answers : tie.Need-slice-write-answers invariant-loop decreases-loop
-slice-write-answers c = omega (arith, c.before.before.before.loop.invariant.1.long, c.before.before.loop-test.true)
+slice-write-answers : tie.Need-bounds-answers-k invariant-loop decreases-loop
+slice-write-answers c = omega (arith, c.before.before.before.loop-k.invariant.1.long, c.before.before.loop-k-test.true)
 
-add-k : tie.Need-overflow-add-k invariant-loop decreases-loop
-add-k c = omega (arith, c.before.before.loop-test.true, c.before.before.before.before.before.before.before.before.before.before.before.before.before.before.before.before.before.before.before.before.before.requires.1.1.1.0)
+add-k : tie.Need-overflow_step-k invariant-loop decreases-loop
+add-k c = omega (arith, c.before.before.loop-k-test.true, c.before.before.before.before.before.before.before.before.before.before.before.before.before.before.before.before.before.before.before.before.before.requires.1.1.1.0)
 
-loop-less : tie.Need-loop-smaller invariant-loop decreases-loop
-loop-less c = omega (arith, c.before.before.loop-test.true)
+loop-less : tie.Need-loop-k-smaller invariant-loop decreases-loop
+loop-less c = omega (arith, c.before.before.loop-k-test.true)
 
-same_length : tie.Need-same-length invariant-loop decreases-loop
-same_length c = omega (arith, c.before.loop.invariant.1.long, c.before.before.before.before.before.before.before.before.before.before.before.before.before.before.before.before.before.before.before.requires.1.1.1.1)
+same_length : tie.Need-shape_of-answers invariant-loop decreases-loop
+same_length c = omega (arith, c.before.loop-k.invariant.1.long, c.before.before.before.before.before.before.before.before.before.before.before.before.before.before.before.before.before.before.before.requires.1.1.1.1)
 
-pub answer-each-spec : {M : Type 1} → statement M
-answer-each-spec =
+pub answer_each_spec : {M : Type 1} → statement M
+answer_each_spec =
     tie.close
     (tie.spec
     invariant-loop

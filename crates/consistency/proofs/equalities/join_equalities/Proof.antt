@@ -11,48 +11,48 @@ use Rattle.consistency.specs.Live.{Equalities, equalities_start, equalities_next
 use Rattle.consistency.proofs.equalities.join_equalities.Statement.{statement}
 use Rattle.consistency.proofs.equalities.join_equalities.Tie as tie
 
-abbrev invariant-loop : tie.invariant-loop
+abbrev invariant-loop : tie.invariant-loop-p
 invariant-loop terms propositions marks parents₀ offsets₀ p₀ p-end parents offsets p =
     (p ≤ length propositions) × ((length parents ≡ length parents₀) × ((length offsets ≡ length offsets₀) × Equalities (set_of terms propositions) marks parents offsets p true))
 
-abbrev decreases-loop : tie.decreases-loop
+abbrev decreases-loop : tie.decreases-loop-p
 decreases-loop terms propositions marks parents₀ offsets₀ p₀ p-end parents offsets p = length propositions - p
 
-loop-holds : tie.Need-loop-init invariant-loop decreases-loop
+loop-holds : tie.Need-loop-p-init invariant-loop decreases-loop
 loop-holds c = let s = c.before.before in (omega arith, (refl, (refl, equalities_start _ _ s.requires.0.0 s.requires.0.1)))
 
-join-equality-requires : tie.Need-join-equality-requires invariant-loop decreases-loop
+join-equality-requires : tie.Need-join_equality-requires invariant-loop decreases-loop
 join-equality-requires c κs =
     let l = c.before.before.before in
     let s = l.before.before.before in
-    ((s.requires.0.0, equalities_live _ _ s.requires.0.0 l.loop.invariant.1.1.1), (s.requires.1, omega (arith, c.before.before.loop-test.true)))
+    ((s.requires.0.0, equalities_live _ _ s.requires.0.0 l.loop-p.invariant.1.1.1), (s.requires.1, omega (arith, c.before.before.loop-p-test.true)))
 
-returns : tie.Need-returns invariant-loop decreases-loop
+returns : tie.Need-returns-then-not-join_equality invariant-loop decreases-loop
 returns c =
     let j = c.before.before.before.before in
     let s = j.before.before.before.before.before.before.before in
-    advanced_off _ _ s.requires.0.0 (rw (not-true j.join-equality.result c.if1.true) at j.join-equality.ensures)
+    advanced_off _ _ s.requires.0.0 (rw (not-true j.join_equality.result c.if-not-join_equality.true) at j.join_equality.ensures)
 
-loop-again : tie.Need-loop-preserved invariant-loop decreases-loop
+loop-again : tie.Need-loop-p-preserved invariant-loop decreases-loop
 loop-again c =
     let j = c.before.before.before.before in
     let l = j.before.before.before.before in
     let s = l.before.before.before in
-    let h = l.loop.invariant in
-    let b = j.before.before.before.loop-test.true in
-    let lengths = j.join-equality.auto.1.1.1 in (
+    let h = l.loop-p.invariant in
+    let b = j.before.before.before.loop-p-test.true in
+    let lengths = j.join_equality.auto.1.1.1 in (
       omega arith,
-      (lengths.0 ∙ h.1.0, (lengths.1.0 ∙ h.1.1.0, equalities_next _ _ s.requires.0.0 b h.1.1.1 (rw (not-false j.join-equality.result c.if1.false) at j.join-equality.ensures))),
+      (lengths.0 ∙ h.1.0, (lengths.1.0 ∙ h.1.1.0, equalities_next _ _ s.requires.0.0 b h.1.1.1 (rw (not-false j.join_equality.result c.if-not-join_equality.false) at j.join_equality.ensures))),
     )
 
-returns-2 : tie.Need-returns-2 invariant-loop decreases-loop
+returns-2 : tie.Need-returns invariant-loop decreases-loop
 returns-2 c =
-    let l = c.before.loop in
-    let e : l.p ≡ length c.before.before.before.before.args.propositions.now = omega (arith, l.invariant.0, c.loop-test.false) in
+    let l = c.before.loop-p in
+    let e : l.p ≡ length c.before.before.before.before.args.propositions.now = omega (arith, l.invariant.0, c.loop-p-test.false) in
     rw e at l.invariant.1.1.1
 
-pub join-equalities-spec : {M : Type 1} → statement M
-join-equalities-spec =
+pub join_equalities_spec : {M : Type 1} → statement M
+join_equalities_spec =
     tie.close
     (tie.spec
     invariant-loop

@@ -17,14 +17,14 @@ use Rattle.consistency.specs.Live.{is_kept, live_labels, advance_none, advance_j
 use Rattle.consistency.proofs.equalities.join_equality.Statement.{statement}
 use Rattle.consistency.proofs.equalities.join_equality.Tie as tie
 
-returns : tie.Need-returns
-returns c = let s = c.before.before.before.before in advance_none _ _ s.requires.0.0 s.requires.0.1 (λ k e. dropped s.args.marks.now s.args.p.0 c.if1.true k)
+returns : tie.Need-returns-then-marks-k-eq0
+returns c = let s = c.before.before.before.before in advance_none _ _ s.requires.0.0 s.requires.0.1 (λ k e. dropped s.args.marks.now s.args.p.0 c.if-marks-k-eq0.true k)
 
-returns-2 : tie.Need-returns-2
+returns-2 : tie.Need-returns-then-r-ne-EQUALITY
 returns-2 c =
     let r = c.before.before in
     let s = r.before.before.before.before.before in
-    advance_none _ _ s.requires.0.0 s.requires.0.1 (λ k e. (rw r.proposition-at.ensures at c.if2.true) e)
+    advance_none _ _ s.requires.0.0 s.requires.0.1 (λ k e. (rw r.proposition_at-r.ensures at c.if-r-ne-EQUALITY.true) e)
 
 join-requires : tie.Need-join-requires
 join-requires c κs =
@@ -35,11 +35,11 @@ join-requires c κs =
     let live = s.requires.0.1 in
     let sides = sides_below _ _ _ good.propositions s.args.p.0 s.requires.1.1 in
     let near = wider {C = far} (omega arith) (proposition_offset_within _ _ _ good.propositions s.args.p.0 s.requires.1.1) in
-    let e = r.proposition-at.ensures in (
+    let e = r.proposition_at-r.ensures in (
       (live.links, labels_near (live_labels _ _ good live)),
       (
         rw (indices.before.index.ensures, e, live.count) (omega (arith, sides.0, sides.1)),
-        (rw (indices.index2.ensures, e, live.count) (omega (arith, sides.0, sides.1)), rw (to_z-of_z w64 _ (sfits_of c.struct_told.given.1.1.0.1), e) near),
+        (rw (indices.index-2.ensures, e, live.count) (omega (arith, sides.0, sides.1)), rw (to_z-of_z w64 _ (sfits_of c.struct_told-1.given.1.1.0.1), e) near),
       ),
     )
 
@@ -55,7 +55,7 @@ kept : (c : tie.After-join) → (is_kept (start c).args.marks.now (start c).args
 kept c =
     let t = c.before.before.before.before.before.before in
     let r = t.before.before in
-    (marked (start c).args.marks.now (start c).args.p.0 r.before.if1.false, rw r.proposition-at.ensures at t.if2.false)
+    (marked (start c).args.marks.now (start c).args.p.0 r.before.if-marks-k-eq0.false, rw r.proposition_at-r.ensures at t.if-r-ne-EQUALITY.false)
 
 -- at its own sides and offset
 equated :
@@ -66,30 +66,30 @@ equated :
     Equated s.args.parents.now s.args.offsets.now c.join.new.0 c.join.new.1.0 x.left x.offset x.right r
 equated c told =
     let indices = c.before.before.before.before in
-    let e = indices.before.before.before.before.proposition-at.ensures in
+    let e = indices.before.before.before.before.proposition_at-r.ensures in
     subst (Equated _ _ _ _ _ _ _) told
-    (rw (to_z-of_z w64 _ (sfits_of c.before.struct_told.given.1.1.0.1), indices.before.index.ensures, indices.index2.ensures, e) at c.join.ensures)
+    (rw (to_z-of_z w64 _ (sfits_of c.before.struct_told-1.given.1.1.0.1), indices.before.index.ensures, indices.index-2.ensures, e) at c.join.ensures)
 
-joined : tie.Need-returns-3
+joined : tie.Need-returns-in-Joined
 joined c =
     let j = c.before.before.before.before.before in
     let s = start j in
-    advance_joined _ _ s.pre.0.0 s.pre.0.1 s.pre.1.1 (kept j).0 (kept j).1 (equated j c.enum_told.given.1)
+    advance_joined _ _ s.pre.0.0 s.pre.0.1 s.pre.1.1 (kept j).0 (kept j).1 (equated j c.enum_told-1.given.1)
 
-held : tie.Need-returns-4
+held : tie.Need-returns-in-Held
 held c =
     let j = c.before.before.before.before.before in
     let s = start j in
-    advance_held _ _ s.pre.0.0 s.pre.0.1 s.pre.1.1 (kept j).0 (kept j).1 (equated j c.enum-told2.given.1)
+    advance_held _ _ s.pre.0.0 s.pre.0.1 s.pre.1.1 (kept j).0 (kept j).1 (equated j c.enum_told-in-Held-1.given.1)
 
-clashed : tie.Need-returns-5
+clashed : tie.Need-returns-in-Clashed
 clashed c =
     let j = c.before.before.before.before.before in
     let s = start j in
-    advance_clashed _ _ s.pre.0.0 s.pre.0.1 s.pre.1.1 (kept j).0 (kept j).1 (equated j c.enum-told3.given.1)
+    advance_clashed _ _ s.pre.0.0 s.pre.0.1 s.pre.1.1 (kept j).0 (kept j).1 (equated j c.enum_told-in-Clashed-1.given.1)
 
-pub join-equality-spec : {M : Type 1} → statement M
-join-equality-spec =
+pub join_equality_spec : {M : Type 1} → statement M
+join_equality_spec =
     tie.close
     (tie.spec
     (λ c. search rules)

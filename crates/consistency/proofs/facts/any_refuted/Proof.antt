@@ -10,28 +10,28 @@ use Rattle.consistency.specs.Deciding.{Judged, refuted, upheld}
 use Rattle.consistency.proofs.facts.any_refuted.Statement.{statement}
 use Rattle.consistency.proofs.facts.any_refuted.Tie as tie
 
-abbrev invariant-loop : tie.invariant-loop
+abbrev invariant-loop : tie.invariant-loop-p
 invariant-loop propositions marks representatives offsets p₀ p-end p = (p ≤ length propositions) × ((k : ℕ) → k < p → Judged (proposition_in propositions) marks (view representatives offsets) k false)
 
-abbrev decreases-loop : tie.decreases-loop
+abbrev decreases-loop : tie.decreases-loop-p
 decreases-loop propositions marks representatives offsets p₀ p-end p = length propositions - p
 
-is-refuted-requires : tie.Need-is-refuted-requires invariant-loop decreases-loop
-is-refuted-requires c κs = let s = c.before.before.before.before in (s.requires.0, (s.requires.1, c.loop-test.true))
+is-refuted-requires : tie.Need-is_refuted-requires invariant-loop decreases-loop
+is-refuted-requires c κs = let s = c.before.before.before.before in (s.requires.0, (s.requires.1, c.loop-p-test.true))
 
-returns : tie.Need-returns invariant-loop decreases-loop
-returns c = refuted c.before.before.loop-test.true (rw c.if1.true at c.before.is-refuted.ensures)
+returns : tie.Need-returns-then-is_refuted invariant-loop decreases-loop
+returns c = refuted c.before.before.loop-p-test.true (rw c.if-is_refuted.true at c.before.is_refuted.ensures)
 
-loop-again : tie.Need-loop-preserved invariant-loop decreases-loop
+loop-again : tie.Need-loop-p-preserved invariant-loop decreases-loop
 loop-again c =
     let l = c.before.before.before in
-    (omega arith, below_more _ l.loop.p l.loop.invariant.1 (rw c.if1.false at c.before.is-refuted.ensures))
+    (omega arith, below_more _ l.loop-p.p l.loop-p.invariant.1 (rw c.if-is_refuted.false at c.before.is_refuted.ensures))
 
-returns-2 : tie.Need-returns-2 invariant-loop decreases-loop
-returns-2 c = upheld (λ k b. c.before.loop.invariant.1 k (omega (arith, c.loop-test.false)))
+returns-2 : tie.Need-returns invariant-loop decreases-loop
+returns-2 c = upheld (λ k b. c.before.loop-p.invariant.1 k (omega (arith, c.loop-p-test.false)))
 
-pub any-refuted-spec : {M : Type 1} → statement M
-any-refuted-spec =
+pub any_refuted_spec : {M : Type 1} → statement M
+any_refuted_spec =
     tie.close
     (tie.spec
     invariant-loop

@@ -15,29 +15,29 @@ use Rattle.consistency.specs.Deciding.{right, judged_disequality, judged_blocks}
 use Rattle.consistency.proofs.facts.is_refuted.Statement.{statement}
 use Rattle.consistency.proofs.facts.is_refuted.Tie as tie
 
-returns : tie.Need-returns
+returns : tie.Need-returns-then-marks-k-eq0
 returns c =
     let s = c.before.before.before.before in
-    let drop = dropped s.args.marks.now s.args.p.0 c.if1.true in
+    let drop = dropped s.args.marks.now s.args.p.0 c.if-marks-k-eq0.true in
     right (λ k. absurd (drop k)) (λ k. absurd (drop k))
 
-abbrev start : tie.Else1 → tie.Start
+abbrev start : tie.Else-marks-k-eq0 → tie.Start
 start r = r.before.before.before.before
 
 -- both sides are terms
-sides : (c : tie.After-index2) → let n = length (start c.before.before.before).args.representatives.now in (c.before.index.result < n) × (c.index2.result < n)
+sides : (c : tie.After-index-right) → let n = length (start c.before.before.before).args.representatives.now in (c.before.index.result < n) × (c.index2.result < n)
 sides c =
     let r = c.before.before in
     let s = start r.before in
     let below = sides_below _ _ _ s.pre.0.0 s.args.p.0 s.pre.1.1 in
-    let e = r.proposition-at.ensures in
-    (rw (c.before.index.ensures, e) below.0, rw (c.index2.ensures, e) below.1)
+    let e = r.proposition_at-r.ensures in
+    (rw (c.before.index-left.ensures, e) below.0, rw (c.index-right.ensures, e) below.1)
 
 -- and there are few
-left-fits : (c : tie.After-index2) → Fits w64 (c.before.index.result * 4)
+left-fits : (c : tie.After-index-right) → Fits w64 (c.before.index.result * 4)
 left-fits c = omega (arith, (sides c).0, (start c.before.before.before).requires.0.1.few)
 
-right-fits : (c : tie.After-index2) → Fits w64 (c.index2.result * 4)
+right-fits : (c : tie.After-index-right) → Fits w64 (c.index2.result * 4)
 right-fits c = omega (arith, (sides c).1, (start c.before.before.before).requires.0.1.few)
 
 holds-requires : tie.Need-holds-requires
@@ -46,34 +46,34 @@ holds-requires c κs =
     let r = i.before.before in
     let s = start r.before in
     let near = wider {C = far} (omega arith) (proposition_offset_within _ _ _ s.pre.0.0 s.args.p.0 s.pre.1.1) in
-    (s.pre.0.1, ((sides i).0, ((sides i).1, rw (to_z-of_z w64 _ (sfits_of c.struct_told.given.1.1.0.1), r.proposition-at.ensures) near)))
+    (s.pre.0.1, ((sides i).0, ((sides i).1, rw (to_z-of_z w64 _ (sfits_of c.struct_told-1.given.1.1.0.1), r.proposition_at-r.ensures) near)))
 
-returns-2 : tie.Need-returns-2
+returns-2 : tie.Need-returns-then-r-eq-DISEQUALITY
 returns-2 c =
     let t = c.before.before in
     let i = t.before.before in
     let r = i.before.before in
     let s = start r.before in
-    let e = r.proposition-at.ensures in
-    judged_disequality (marked s.args.marks.now s.args.p.0 r.before.if1.false) (rw e at t.if2.true) c.holds.result
-    (rw (to_z-of_z w64 _ (sfits_of c.before.struct_told.given.1.1.0.1), i.before.index.ensures, i.index2.ensures, e) at c.holds.ensures)
+    let e = r.proposition_at-r.ensures in
+    judged_disequality (marked s.args.marks.now s.args.p.0 r.before.if-marks-k-eq0.false) (rw e at t.if-r-eq-DISEQUALITY.true) c.holds.result
+    (rw (to_z-of_z w64 _ (sfits_of c.before.struct_told-1.given.1.1.0.1), i.before.index-left.ensures, i.index-right.ensures, e) at c.holds.ensures)
 
-returns-3 : tie.Need-returns-3
+returns-3 : tie.Need-returns-then-r-eq-BLOCK_DISEQUALITY
 returns-3 c =
     let t = c.before.before in
     let i = t.before.before.before.before in
     let r = i.before.before in
     let s = start r.before in
-    let e = r.proposition-at.ensures in
-    judged_blocks (marked s.args.marks.now s.args.p.0 r.before.if1.false) (rw e at t.if3.true) _ (rw (i.before.index.ensures, i.index2.ensures, e) refl)
+    let e = r.proposition_at-r.ensures in
+    judged_blocks (marked s.args.marks.now s.args.p.0 r.before.if-marks-k-eq0.false) (rw e at t.if-r-eq-BLOCK_DISEQUALITY.true) _ (rw (i.before.index-left.ensures, i.index-right.ensures, e) refl)
 
-returns-4 : tie.Need-returns-4
+returns-4 : tie.Need-returns
 returns-4 c =
-    let e = c.before.before.before.before.before.before.proposition-at.ensures in
-    right (λ k d. absurd ((rw e at c.before.before.if2.false) d)) (λ k d. absurd ((rw e at c.if3.false) d))
+    let e = c.before.before.before.before.before.before.proposition_at-r.ensures in
+    right (λ k d. absurd ((rw e at c.before.before.if-r-eq-DISEQUALITY.false) d)) (λ k d. absurd ((rw e at c.if-r-eq-BLOCK_DISEQUALITY.false) d))
 
-pub is-refuted-spec : {M : Type 1} → statement M
-is-refuted-spec =
+pub is_refuted_spec : {M : Type 1} → statement M
+is_refuted_spec =
     tie.close
     (tie.spec
     (λ c. search rules)

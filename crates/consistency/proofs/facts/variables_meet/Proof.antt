@@ -8,44 +8,44 @@ use Rattle.consistency.specs.Variables.{Seen, seen_start, seen_other, seen_varia
 use Rattle.consistency.proofs.facts.variables_meet.Statement.{statement}
 use Rattle.consistency.proofs.facts.variables_meet.Tie as tie
 
-abbrev invariant-loop : tie.invariant-loop
+abbrev invariant-loop : tie.invariant-loop-t
 invariant-loop terms representatives seen₀ t₀ t-end seen t = Seen (length terms) (term_in terms) representatives seen t
 
-abbrev decreases-loop : tie.decreases-loop
+abbrev decreases-loop : tie.decreases-loop-t
 decreases-loop terms representatives seen₀ t₀ t-end seen t = length terms - t
 
-loop-again : tie.Need-loop-preserved invariant-loop decreases-loop
+loop-again : tie.Need-loop-t-preserved-then-r-ne-VARIABLE invariant-loop decreases-loop
 loop-again c =
     let r = c.before.before in
     let l = r.before.before in
-    seen_other _ _ _ r.before.loop-test.true (rw r.term-at.ensures at c.if1.true) l.loop.invariant
+    seen_other _ _ _ r.before.loop-t-test.true (rw r.term_at-r.ensures at c.if-r-ne-VARIABLE.true) l.loop-t.invariant
 
 -- a class is a term, and there are few
-few : (c : tie.After-wide invariant-loop decreases-loop) → c.wide.result < 512
+few : (c : tie.After-wide-class invariant-loop decreases-loop) → c.wide.result < 512
 few c =
     let l = c.before.before.before.before.before.before in
     let s = l.before.before in
-    omega (arith, c.wide.ensures, s.requires.1 l.loop.t (omega arith), s.requires.0.1, s.requires.0.0)
+    omega (arith, c.wide-class.ensures, s.requires.1 l.loop-t.t (omega arith), s.requires.0.1, s.requires.0.0)
 
-returns : tie.Need-returns invariant-loop decreases-loop
+returns : tie.Need-returns-then-seen-class-ne0 invariant-loop decreases-loop
 returns c =
     let w = c.before in
     let r = w.before.before.before.before in
     let l = r.before.before in
-    seen_meets _ _ _ r.before.loop-test.true (rw r.term-at.ensures at w.before.before.if1.false) w.wide.ensures c.if2.true l.loop.invariant
+    seen_meets _ _ _ r.before.loop-t-test.true (rw r.term_at-r.ensures at w.before.before.if-r-ne-VARIABLE.false) w.wide-class.ensures c.if-seen-class-ne0.true l.loop-t.invariant
 
-loop-again-2 : tie.Need-loop-preserved-2 invariant-loop decreases-loop
+loop-again-2 : tie.Need-loop-t-preserved invariant-loop decreases-loop
 loop-again-2 c =
     let w = c.before in
     let r = w.before.before.before.before in
     let l = r.before.before in
-    seen_variable _ _ _ r.before.loop-test.true (rw r.term-at.ensures at w.before.before.if1.false) w.wide.ensures (few w) c.if2.false l.loop.invariant
+    seen_variable _ _ _ r.before.loop-t-test.true (rw r.term_at-r.ensures at w.before.before.if-r-ne-VARIABLE.false) w.wide-class.ensures (few w) c.if-seen-class-ne0.false l.loop-t.invariant
 
-returns-2 : tie.Need-returns-2 invariant-loop decreases-loop
-returns-2 c = seen_all _ _ _ (omega (arith, c.loop-test.false)) c.before.loop.invariant
+returns-2 : tie.Need-returns invariant-loop decreases-loop
+returns-2 c = seen_all _ _ _ (omega (arith, c.loop-t-test.false)) c.before.loop-t.invariant
 
-pub variables-meet-spec : {M : Type 1} → statement M
-variables-meet-spec =
+pub variables_meet_spec : {M : Type 1} → statement M
+variables_meet_spec =
     tie.close
     (tie.spec
     invariant-loop

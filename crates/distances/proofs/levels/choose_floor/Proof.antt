@@ -9,8 +9,8 @@ invariant-loop n large count apart room floor₀ counter₀ floor counter = coun
 abbrev decreases-loop : tie.decreases-loop
 decreases-loop n large count apart room floor₀ counter₀ floor counter = 32 - counter
 
-pub choose-floor-spec : {M : Type 1} → statement M
-choose-floor-spec =
+pub choose_floor_spec : {M : Type 1} → statement M
+choose_floor_spec =
     tie.close
     (tie.spec
     invariant-loop

@@ -3,8 +3,8 @@ use Rattle.std.proofs.Common.{◌∙◌, rules}
 use Rattle.distances.proofs.levels.choose_levels.Statement.{statement}
 use Rattle.distances.proofs.levels.choose_levels.Tie as tie
 
-pub choose-levels-spec : {M : Type 1} → statement M
-choose-levels-spec =
+pub choose_levels_spec : {M : Type 1} → statement M
+choose_levels_spec =
     tie.close
     (tie.spec
     (λ c κs. search rules)
@@ -12,5 +12,5 @@ choose-levels-spec =
     (λ c κs. search rules)
     (λ c κs. (c.before.list-large.ensures, c.before.before.before.before.before.before.before.before.before.before.before.before.before.requires))
     (λ c κs. c.before.before.before.before.list-large.ensures)
-    (λ c. c.before.before.set-levels.auto.1.1.1.0 ∙ c.before.before.before.before.before.before.before.before.before.before.before.before.clear.auto.0)
+    (λ c. c.before.before.set_levels.auto.1.1.1.0 ∙ c.before.before.before.before.before.before.before.before.before.before.before.before.clear.auto.0)
     (λ c. search rules))

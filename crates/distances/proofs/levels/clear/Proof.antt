@@ -4,10 +4,10 @@ use Rattle.lists.specs.Filled.{Filled, filled_none, filled_more}
 use Rattle.distances.proofs.levels.clear.Statement.{statement}
 use Rattle.distances.proofs.levels.clear.Tie as tie
 
-abbrev invariant-loop : tie.invariant-loop
+abbrev invariant-loop : tie.invariant-loop-k
 invariant-loop levels₀ k₀ k-end levels k = Filled (λ _. 0) 0 k (length levels₀) levels
 
-abbrev decreases-loop : tie.decreases-loop
+abbrev decreases-loop : tie.decreases-loop-k
 decreases-loop levels₀ k₀ k-end levels k = length levels₀ - k
 
 pub clear_spec : {M : Type 1} → statement M
@@ -18,9 +18,9 @@ clear_spec =
     decreases-loop
     (λ c. filled_none _ 0 refl)
     (λ c. search rules)
-    (λ c. omega (arith, c.before.loop.invariant.long, c.loop-test.true))
+    (λ c. omega (arith, c.before.loop-k.invariant.long, c.loop-k-test.true))
     (λ c. search rules)
     (λ c. search rules)
-    (λ c. filled_more _ 0 c.before.loop.invariant (omega (arith, c.loop-test.true)) refl)
-    (λ c. c.before.loop.invariant.long)
-    (λ c. let l = c.before.loop in record { long = l.invariant.long; done = λ j h. l.invariant.done j (omega (arith, c.loop-test.false)) }))
+    (λ c. filled_more _ 0 c.before.loop-k.invariant (omega (arith, c.loop-k-test.true)) refl)
+    (λ c. c.before.loop-k.invariant.long)
+    (λ c. let l = c.before.loop-k in record { long = l.invariant.long; done = λ j h. l.invariant.done j (omega (arith, c.loop-k-test.false)) }))

@@ -3,14 +3,14 @@ use Rattle.std.proofs.Common.{◌≡◌, ◌-◌, ◌≤◌, length, ◌∙◌, 
 use Rattle.distances.proofs.levels.set_levels.Statement.{statement}
 use Rattle.distances.proofs.levels.set_levels.Tie as tie
 
-abbrev invariant-loop : tie.invariant-loop
+abbrev invariant-loop : tie.invariant-loop-k
 invariant-loop large count floor levels₀ k₀ levels k = (k ≤ count) × (length levels ≡ length levels₀)
 
-abbrev decreases-loop : tie.decreases-loop
+abbrev decreases-loop : tie.decreases-loop-k
 decreases-loop large count floor levels₀ k₀ levels k = count - k
 
-pub set-levels-spec : {M : Type 1} → statement M
-set-levels-spec =
+pub set_levels_spec : {M : Type 1} → statement M
+set_levels_spec =
     tie.close
     (tie.spec
     invariant-loop
@@ -25,6 +25,6 @@ set-levels-spec =
     (λ c κs. search rules)
     (λ c. search rules)
     (λ c. search rules)
-    (λ c. (omega (arith, c.before.before.before.before.before.before.before.before.loop-test.true), c.before.before.set-level.auto.1.1.0 ∙ c.before.before.before.before.before.before.before.before.before.loop.invariant.1))
+    (λ c. (omega (arith, c.before.before.before.before.before.before.before.before.loop-test.true), c.before.before.set_level.auto.1.1.0 ∙ c.before.before.before.before.before.before.before.before.before.loop.invariant.1))
     (λ c. search rules)
     (λ c. search rules))

@@ -10,8 +10,8 @@ bucket-requires c κs = let s = c.before.before.before.before.before.before in l
     let h = s.requires.1 in
     (omega (arith, C.few, C.below i h.0), (omega (arith, C.few, C.below j h.1), (C.low i h.0, C.low j h.1)))
 
-pub bucket-of-spec : {M : Type 1} → statement M
-bucket-of-spec =
+pub bucket_of_spec : {M : Type 1} → statement M
+bucket_of_spec =
     tie.close
     (tie.spec
     (λ c. let s = c.before.before in omega (arith, s.requires.0.few, s.requires.1))

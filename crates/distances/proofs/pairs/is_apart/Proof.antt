@@ -6,13 +6,13 @@ use Rattle.distances.specs.Placing.{product_small}
 use Rattle.distances.proofs.pairs.is_apart.Statement.{statement}
 use Rattle.distances.proofs.pairs.is_apart.Tie as tie
 
-pub is-apart-spec : {M : Type 1} → statement M
-is-apart-spec =
+pub is_apart_spec : {M : Type 1} → statement M
+is_apart_spec =
     tie.close
     (tie.spec
-    (λ c. λ e o. omega (arith, o.left, c.if1.true))
-    (λ c. λ e o. omega (arith, o.right, c.if2.true))
-    (λ c. let s = c.before.before.before in omega (arith, product_small s.args.n s.args.a s.requires.0 (omega (arith, c.before.if1.false))))
-    (λ c. let s = c.before.before.before in omega (arith, product_small s.args.n s.args.a s.requires.0 (omega (arith, c.before.if1.false)), c.if2.false))
+    (λ c. λ e o. omega (arith, o.left, c.if-n-a.true))
+    (λ c. λ e o. omega (arith, o.right, c.if-n-b.true))
+    (λ c. let s = c.before.before.before in omega (arith, product_small s.args.n s.args.a s.requires.0 (omega (arith, c.before.if-n-a.false))))
+    (λ c. let s = c.before.before.before in omega (arith, product_small s.args.n s.args.a s.requires.0 (omega (arith, c.before.if-n-a.false)), c.if-n-b.false))
     (λ c κs. let s = c.before.before.before in let h : s.args.a * s.args.n + s.args.b < s.args.n * s.args.n = digits_lt (omega (arith, c.before.if1.false)) (omega (arith, c.if2.false)) in omega (arith, s.requires.1))
     (λ c. λ e o. false_true o.clear (sym c.test_bit.ensures ∙ e)))

@@ -5,10 +5,10 @@ use Rattle.frames.proofs.copy.copy_rows.Statement.{statement}
 use Rattle.frames.proofs.copy.copy_rows.Tie as tie
 
 returns : tie.Need-returns
-returns c = copied_each _ _ _ _ c.before.before.before.before.before.before.before.copy-triples.ensures c.before.before.before.before.copy-quadruples.ensures c.before.copy-triples2.ensures
+returns c = copied_each _ _ _ _ c.before.before.before.before.before.before.before.copy_triples.ensures c.before.before.before.before.copy_quadruples.ensures c.before.copy_triples-2.ensures
 
-pub copy-rows-spec : {M : Type 1} → statement M
-copy-rows-spec =
+pub copy_rows_spec : {M : Type 1} → statement M
+copy_rows_spec =
     tie.close
     (tie.spec
     (λ c κs. search rules)

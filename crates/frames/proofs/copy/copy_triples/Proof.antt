@@ -6,23 +6,23 @@ use Rattle.frames.specs.Copying.{Copying, copying_none, copying_more, copying_al
 use Rattle.frames.proofs.copy.copy_triples.Statement.{statement}
 use Rattle.frames.proofs.copy.copy_triples.Tie as tie
 
-abbrev invariant-loop : tie.invariant-loop
+abbrev invariant-loop : tie.invariant-loop-k
 invariant-loop n from to₀ k₀ to k = Copying from to₀ to n k
 
-abbrev decreases-loop : tie.decreases-loop
+abbrev decreases-loop : tie.decreases-loop-k
 decreases-loop n from to₀ k₀ to k = n - k
 
-loop-holds : tie.Need-loop-init invariant-loop decreases-loop
+loop-holds : tie.Need-loop-k-init invariant-loop decreases-loop
 loop-holds c = copying_none _ _ _
 
-loop-again : tie.Need-loop-preserved invariant-loop decreases-loop
-loop-again c = copying_more _ _ _ _ c.before.before.loop.k _ c.before.before.before.requires.0 c.before.before.before.requires.1 (omega arith) c.before.before.loop.invariant
+loop-again : tie.Need-loop-k-preserved invariant-loop decreases-loop
+loop-again c = copying_more _ _ _ _ c.before.before.loop-k.k _ c.before.before.before.requires.0 c.before.before.before.requires.1 (omega arith) c.before.before.loop-k.invariant
 
 returns : tie.Need-returns invariant-loop decreases-loop
-returns c = copying_all _ _ _ _ c.before.loop.k (omega arith) c.before.loop.invariant
+returns c = copying_all _ _ _ _ c.before.loop-k.k (omega arith) c.before.loop-k.invariant
 
-pub copy-triples-spec : {M : Type 1} → statement M
-copy-triples-spec =
+pub copy_triples_spec : {M : Type 1} → statement M
+copy_triples_spec =
     tie.close
     (tie.spec
     invariant-loop
@@ -31,9 +31,9 @@ copy-triples-spec =
     (λ c. omega arith)
     (λ c. omega arith)
     (λ c. omega arith)
-    (λ c. omega (arith, c.before.before.loop.invariant.long))
+    (λ c. omega (arith, c.before.before.loop-k.invariant.long))
     (λ c. omega arith)
     (λ c. omega arith)
     loop-again
-    (λ c. c.before.loop.invariant.long)
+    (λ c. c.before.loop-k.invariant.long)
     returns)

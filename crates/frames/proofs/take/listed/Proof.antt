@@ -11,35 +11,35 @@ use Rattle.frames.specs.Taking.{listed_here, listed_nowhere}
 use Rattle.frames.proofs.take.listed.Statement.{statement}
 use Rattle.frames.proofs.take.listed.Tie as tie
 
-abbrev invariant-loop : tie.invariant-loop
+abbrev invariant-loop : tie.invariant-loop-k
 invariant-loop t count terms k₀ k = (k ≤ count) × ((i : ℕ) → i < k → is_same_atom t (term_in terms i) ≡ false)
 
-abbrev decreases-loop : tie.decreases-loop
+abbrev decreases-loop : tie.decreases-loop-k
 decreases-loop t count terms k₀ k = count - k
 
 -- the test of record k
-tested : (c : tie.After-same-atom invariant-loop decreases-loop)
+tested : (c : tie.After-same_atom invariant-loop decreases-loop)
     → c.same-atom.result ≡ is_same_atom c.before.before.before.before.args.t (term_in c.before.before.before.before.args.terms.now c.before.before.before.loop.k)
-tested c = rw (← c.before.term-at.ensures) c.same-atom.ensures
+tested c = rw (← c.before.term_at.ensures) c.same_atom.ensures
 
-loop-holds : tie.Need-loop-init invariant-loop decreases-loop
+loop-holds : tie.Need-loop-k-init invariant-loop decreases-loop
 loop-holds c = (omega arith, below_none _)
 
-returns : tie.Need-returns invariant-loop decreases-loop
+returns : tie.Need-returns-then-same_atom invariant-loop decreases-loop
 returns c rs e L =
-    let l = c.before.before.before.before.loop in
-    sym (listed_here _ rs L c.before.before.before.before.before.args.t l.k (omega arith) (sym (tested c.before) ∙ c.if1.true))
+    let l = c.before.before.before.before.loop-k in
+    sym (listed_here _ rs L c.before.before.before.before.before.args.t l.k (omega arith) (sym (tested c.before) ∙ c.if-same_atom.true))
 
-loop-again : tie.Need-loop-preserved invariant-loop decreases-loop
+loop-again : tie.Need-loop-k-preserved invariant-loop decreases-loop
 loop-again c =
-    let l = c.before.before.before.before.loop in
-    (omega arith, below_more _ l.k l.invariant.1 (sym (tested c.before) ∙ c.if1.false))
+    let l = c.before.before.before.before.loop-k in
+    (omega arith, below_more _ l.k l.invariant.1 (sym (tested c.before) ∙ c.if-same_atom.false))
 
-returns-2 : tie.Need-returns-2 invariant-loop decreases-loop
-returns-2 c rs e L = sym (listed_nowhere _ rs L c.before.before.args.t (λ k h. c.before.loop.invariant.1 k (omega arith)))
+returns-2 : tie.Need-returns invariant-loop decreases-loop
+returns-2 c rs e L = sym (listed_nowhere _ rs L c.before.before.args.t (λ k h. c.before.loop-k.invariant.1 k (omega arith)))
 
-pub listed-spec : {M : Type 1} → statement M
-listed-spec =
+pub listed_spec : {M : Type 1} → statement M
+listed_spec =
     tie.close
     (tie.spec
     invariant-loop

@@ -4,20 +4,20 @@ use borrow.Author.Rules.{rules}
 use Rattle.frames.proofs.take.take_frame.Statement.{statement}
 use Rattle.frames.proofs.take.take_frame.Tie as tie
 
-returns : tie.Need-returns
-returns c = let t = c.take-term.ensures in rw c.before.before.frame.given.1 t
+returns : tie.Need-returns-in-Term
+returns c = let t = c.take_term.ensures in rw c.before.before.frame-1.given.1 t
 
-returns-2 : tie.Need-returns-2
-returns-2 c = let t = c.take-proposition.ensures in rw c.before.before.frame2.given.1 (record { room = t.room; fault = λ R n L. t.fault R n })
+returns-2 : tie.Need-returns-in-Proposition
+returns-2 c = let t = c.take_proposition.ensures in rw c.before.before.frame-in-Proposition-1.given.1 (record { room = t.room; fault = λ R n L. t.fault R n })
 
-returns-3 : tie.Need-returns-3
-returns-3 c = let t = c.take-question.ensures in rw c.before.before.frame3.given.1 (record { room = t.room; fault = λ R n L. t.fault R n })
+returns-3 : tie.Need-returns-in-Question
+returns-3 c = let t = c.take_question.ensures in rw c.before.before.frame-in-Question-1.given.1 (record { room = t.room; fault = λ R n L. t.fault R n })
 
-returns-4 : tie.Need-returns-4
-returns-4 c = rw c.enum_told.given.1 (record { room = tt; fault = λ R n L. refl })
+returns-4 : tie.Need-returns-in-Malformed
+returns-4 c = rw c.enum_told-1.given.1 (record { room = tt; fault = λ R n L. refl })
 
-pub take-frame-spec : {M : Type 1} → statement M
-take-frame-spec =
+pub take_frame_spec : {M : Type 1} → statement M
+take_frame_spec =
     tie.close
     (tie.spec
     (λ c. search rules)

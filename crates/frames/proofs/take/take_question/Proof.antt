@@ -8,7 +8,7 @@ use borrow.Author.Rules.{rules}
 use Rattle.frames.proofs.take.take_question.Statement.{statement}
 use Rattle.frames.proofs.take.take_question.Tie as tie
 
-returns : tie.Need-returns
+returns : tie.Need-returns-then-counts-ge-MOST
 unfolding frame_fault question_name_fault
 returns c =
     record {
@@ -17,26 +17,26 @@ returns c =
           simp (le-leb 512 (length R.questions) (omega arith));
     }
 
-returns-2 : tie.Need-returns-2
+returns-2 : tie.Need-returns-then-is_unlisted
 unfolding frame_fault question_name_fault
 returns-2 c =
     record {
       room = tt;
       fault = λ R n.
-          let u = rw (c.before.before.is-unlisted.ensures, c.before.is-unlisted2.ensures, n.terms) at c.if2.true in
+          let u = rw (c.before.before.is_unlisted.ensures, c.before.is_unlisted-2.ensures, n.terms) at c.if-is_unlisted.true in
           simp (lt-leb 512 (length R.questions) (omega arith), u);
     }
 
-returns-3 : tie.Need-returns-3
+returns-3 : tie.Need-returns
 unfolding frame_fault question_name_fault
 returns-3 c =
     record {
       room = omega arith;
       fault = λ R n.
-          let u = rw (c.before.before.is-unlisted.ensures, c.before.is-unlisted2.ensures, n.terms) at c.if2.false in
+          let u = rw (c.before.before.is_unlisted.ensures, c.before.is_unlisted-2.ensures, n.terms) at c.if-is_unlisted.false in
           simp (lt-leb 512 (length R.questions) (omega arith), u);
     }
 
-pub take-question-spec : {M : Type 1} → statement M
-take-question-spec =
+pub take_question_spec : {M : Type 1} → statement M
+take_question_spec =
     tie.close (tie.spec returns (λ c κs. search rules) (λ c κs. search rules) returns-2 returns-3)

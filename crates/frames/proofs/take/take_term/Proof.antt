@@ -9,7 +9,7 @@ use borrow.Author.Rules.{rules}
 use Rattle.frames.proofs.take.take_term.Statement.{statement}
 use Rattle.frames.proofs.take.take_term.Tie as tie
 
-returns : tie.Need-returns
+returns : tie.Need-returns-then-counts-gt0
 unfolding frame_fault
 returns c =
     record {
@@ -18,7 +18,7 @@ returns c =
           simp (nonempty R.propositions (omega arith));
     }
 
-returns-2 : tie.Need-returns-2
+returns-2 : tie.Need-returns-then-counts-gt0-2
 unfolding frame_fault
 returns-2 c =
     record {
@@ -27,7 +27,7 @@ returns-2 c =
           simp (empty R.propositions (omega arith), nonempty R.questions (omega arith));
     }
 
-returns-3 : tie.Need-returns-3
+returns-3 : tie.Need-returns-then-counts-ge-MOST
 unfolding frame_fault
 returns-3 c =
     record {
@@ -36,40 +36,40 @@ returns-3 c =
           simp (empty R.propositions (omega arith), empty R.questions (omega arith), le-leb 512 (length R.terms) (omega arith));
     }
 
-returns-4 : tie.Need-returns-4
+returns-4 : tie.Need-returns-then-is_unlisted
 returns-4 c =
     record {
       room = tt;
       fault = λ R n L.
-          rw (inner_unlisted R c.before.before.before.before.before.before.before.before.before.before.args.t (omega arith) (omega arith) (omega arith) c.before.before.if4.true (rw (← n.terms) (sym c.before.is-unlisted.ensures ∙ c.if5.true)));
+          rw (inner_unlisted R c.before.before.before.before.before.before.before.before.before.before.args.t (omega arith) (omega arith) (omega arith) c.before.before.if-t-eq-DEREF.true (rw (← n.terms) (sym c.before.is_unlisted.ensures ∙ c.if-is_unlisted.true)));
     }
 
-returns-5 : tie.Need-returns-5
+returns-5 : tie.Need-returns-then-t-eq-DEREF
 returns-5 c =
     record {
       room = omega arith;
       fault = λ R n L.
-          rw (inner_listed R c.before.before.before.before.before.before.before.before.before.before.args.t (omega arith) (omega arith) (omega arith) c.before.before.if4.true (rw (← n.terms) (sym c.before.is-unlisted.ensures ∙ c.if5.false)));
+          rw (inner_listed R c.before.before.before.before.before.before.before.before.before.before.args.t (omega arith) (omega arith) (omega arith) c.before.before.if-t-eq-DEREF.true (rw (← n.terms) (sym c.before.is_unlisted.ensures ∙ c.if-is_unlisted.false)));
     }
 
-returns-6 : tie.Need-returns-6
+returns-6 : tie.Need-returns-then-listed
 returns-6 c =
     record {
       room = tt;
       fault = λ R n L.
-          rw (no_inner R c.before.before.before.before.before.before.before.before.before.before.args.t (omega arith) (omega arith) (omega arith) c.before.before.if4.false, sym (c.before.listed.ensures R.terms n.terms L) ∙ c.if6.true);
+          rw (no_inner R c.before.before.before.before.before.before.before.before.before.before.args.t (omega arith) (omega arith) (omega arith) c.before.before.if-t-eq-DEREF.false, sym (c.before.listed.ensures R.terms n.terms L) ∙ c.if-listed.true);
     }
 
-returns-7 : tie.Need-returns-7
+returns-7 : tie.Need-returns
 returns-7 c =
     record {
       room = omega arith;
       fault = λ R n L.
-          rw (no_inner R c.before.before.before.before.before.before.before.before.before.before.args.t (omega arith) (omega arith) (omega arith) c.before.before.if4.false, sym (c.before.listed.ensures R.terms n.terms L) ∙ c.if6.false);
+          rw (no_inner R c.before.before.before.before.before.before.before.before.before.before.args.t (omega arith) (omega arith) (omega arith) c.before.before.if-t-eq-DEREF.false, sym (c.before.listed.ensures R.terms n.terms L) ∙ c.if-listed.false);
     }
 
-pub take-term-spec : {M : Type 1} → statement M
-take-term-spec =
+pub take_term_spec : {M : Type 1} → statement M
+take_term_spec =
     tie.close
     (tie.spec
     returns

@@ -9,13 +9,13 @@ use borrow.Author.Rules.{rules}
 use Rattle.lines.proofs.line.question_frame.Statement.{statement}
 use Rattle.lines.proofs.line.question_frame.Tie as tie
 
-returns : tie.Need-returns
-returns c = sym (framed_wrong asked c.before.before.args.fields.now c.if1.true)
+returns : tie.Need-returns-then-fields-ne8
+returns c = sym (framed_wrong asked c.before.before.args.fields.now c.if-fields-ne8.true)
 
-returns-2 : tie.Need-returns-2
+returns-2 : tie.Need-returns
 returns-2 c =
-    rw (framed_right asked c.before.before.before.before.before.args.fields.now c.before.before.before.if1.false, c.word2.ensures, to_z-of_z w64 c.before.offset-field.result (sfits_of c.before.offset-field.type-inv), c.before.offset-field.ensures, c.before.before.word.ensures)
+    rw (framed_right asked c.before.before.before.before.before.args.fields.now c.before.before.before.if-fields-ne8.false, c.word-2.ensures, to_z-of_z w64 c.before.offset_field.result (sfits_of c.before.offset_field.type_inv), c.before.offset_field.ensures, c.before.before.word.ensures)
 
-pub question-frame-spec : {M : Type 1} → statement M
-question-frame-spec =
+pub question_frame_spec : {M : Type 1} → statement M
+question_frame_spec =
     tie.close (tie.spec returns (λ c κs. search rules) (λ c κs. search rules) (λ c κs. search rules) returns-2)

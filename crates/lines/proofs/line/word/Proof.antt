@@ -9,7 +9,7 @@ use Rattle.lines.proofs.line.word.Tie as tie
 returns : tie.Need-returns
 returns c = let e : (c.before.before.before.args.at + 2) - c.before.before.before.args.at ≡ 2 = omega arith in rw e at c.number.ensures
 
-pub word-spec : {M : Type 1} → statement M
-word-spec =
+pub word_spec : {M : Type 1} → statement M
+word_spec =
     tie.close
     (tie.spec (λ c. search rules) (λ c. search rules) (λ c. search rules) (λ c. search rules) (λ c κs. search rules) (λ c. search rules) returns)

@@ -5,22 +5,22 @@ use Rattle.marking.specs.Rows.{ClassRows, all_classes}
 use Rattle.marking.proofs.base.mark_each.Statement.{statement}
 use Rattle.marking.proofs.base.mark_each.Tie as tie
 
-abbrev invariant-loop : tie.invariant-loop
+abbrev invariant-loop : tie.invariant-loop-a
 invariant-loop n selves others other-first other-next points heights apart class-first class-next pairs₀ a₀ pairs a = Marking n n a (ClassRows n apart points heights) pairs₀ pairs
 
-abbrev decreases-loop : tie.decreases-loop
+abbrev decreases-loop : tie.decreases-loop-a
 decreases-loop n selves others other-first other-next points heights apart class-first class-next pairs₀ a₀ pairs a = n - a
 
-mark-class-requires : tie.Need-mark-class-requires invariant-loop decreases-loop
+mark-class-requires : tie.Need-mark_class-requires invariant-loop decreases-loop
 mark-class-requires c κs = let s = c.before.before.before.before.before.before.before.before.before.before.before.before.before in
     let p = s.requires.0 in
-    ((p.0, (p.1.0, (p.1.1.0, (c.before.loop-test.true, (p.1.1.1.0, room_kept s.args.n c.before.before.loop.invariant.marks p.1.1.1.1))))), s.requires.1)
+    ((p.0, (p.1.0, (p.1.1.0, (c.before.loop-a-test.true, (p.1.1.1.0, room_kept s.args.n c.before.before.loop-a.invariant.marks p.1.1.1.1))))), s.requires.1)
 
 returns : tie.Need-returns invariant-loop decreases-loop
-returns c = let s = c.before.before.before.before.before.before.before.before.before.before.before.before.args in all_classes s.n s.apart.now s.points.now s.heights.now (marking_done c.loop-test.false c.before.loop.invariant)
+returns c = let s = c.before.before.before.before.before.before.before.before.before.before.before.before.args in all_classes s.n s.apart.now s.points.now s.heights.now (marking_done c.loop-a-test.false c.before.loop-a.invariant)
 
-pub mark-each-spec : {M : Type 1} → statement M
-mark-each-spec =
+pub mark_each_spec : {M : Type 1} → statement M
+mark_each_spec =
     tie.close
     (tie.spec
     invariant-loop
@@ -29,6 +29,6 @@ mark-each-spec =
     mark-class-requires
     (λ c. omega arith)
     (λ c. omega arith)
-    (λ c. marking_more c.before.before.before.before.loop-test.true c.before.before.before.before.before.loop.invariant c.before.before.mark-class.ensures)
-    (λ c. c.before.loop.invariant.marks.long)
+    (λ c. marking_more c.before.before.before.before.loop-a-test.true c.before.before.before.before.before.loop-a.invariant c.before.before.mark_class.ensures)
+    (λ c. c.before.loop-a.invariant.marks.long)
     returns)

@@ -7,43 +7,43 @@ use Rattle.marking.specs.Far.{FarRow}
 use Rattle.marking.proofs.base.mark_far.Statement.{statement}
 use Rattle.marking.proofs.base.mark_far.Tie as tie
 
-abbrev invariant-loop : tie.invariant-loop
+abbrev invariant-loop : tie.invariant-loop-i
 invariant-loop n a far points class-first class-next pairs₀ i₀ pairs i = Walking n (key_of points) a (FarRow n points far a) i pairs₀ pairs
 
-abbrev decreases-loop : tie.decreases-loop
+abbrev decreases-loop : tie.decreases-loop-i
 decreases-loop n a far points class-first class-next pairs₀ i₀ pairs i = n - i
 
-loop-holds : tie.Need-loop-init invariant-loop decreases-loop
+loop-holds : tie.Need-loop-i-init invariant-loop decreases-loop
 loop-holds c = let s = c.before.before.before.before.before.before in
     let a = s.args in
-    rw c.linked.ensures
+    rw c.linked-i.ensures
     (walking_start (FarRow a.n a.points.now a.far.now a.a) (λ j x y h e. e.0) a.pairs.now (s.requires.0.starts.from a.a (omega (arith, s.requires.1.0, s.requires.1.1.0))))
 
-mark-masked-requires : tie.Need-mark-masked-requires invariant-loop decreases-loop
+mark-masked-requires : tie.Need-mark_masked-requires invariant-loop decreases-loop
 mark-masked-requires c κs = let s = c.before.before.before.before.before.before.before.before.before in
-    let h = c.before.loop-test.true in
-    (s.requires.1.1.1.0, (record { few = s.requires.1.0; left = h; right = h }, room_kept s.args.n c.before.before.loop.invariant.marks s.requires.1.1.1.1))
+    let h = c.before.loop-i-test.true in
+    (s.requires.1.1.1.0, (record { few = s.requires.1.0; left = h; right = h }, room_kept s.args.n c.before.before.loop-i.invariant.marks s.requires.1.1.1.1))
 
-loop-less : tie.Need-loop-smaller invariant-loop decreases-loop
-loop-less c = let h = c.before.before.before.before.before.loop-test.true in let f = (c.before.before.before.before.before.before.before.before.before.before.before.before.before.requires.0.links.links c.before.before.before.before.before.before.loop.i (omega arith) h).after in omega (arith, c.linked2.ensures)
+loop-less : tie.Need-loop-i-smaller invariant-loop decreases-loop
+loop-less c = let h = c.before.before.before.before.before.loop-i-test.true in let f = (c.before.before.before.before.before.before.before.before.before.before.before.before.before.requires.0.links.links c.before.before.before.before.before.before.loop-i.i (omega arith) h).after in omega (arith, c.linked-i-in-loop-i.ensures)
 
-loop-again : tie.Need-loop-preserved invariant-loop decreases-loop
+loop-again : tie.Need-loop-i-preserved invariant-loop decreases-loop
 loop-again c = let s = c.before.before.before.before.before.before.before.before.before.before.before.before.before in
     let a = s.args in
-    let i = c.before.before.before.before.before.before.loop.i in
-    let h = c.before.before.before.before.before.loop-test.true in
+    let i = c.before.before.before.before.before.before.loop-i.i in
+    let h = c.before.before.before.before.before.loop-i-test.true in
     let E = FarRow a.n a.points.now a.far.now a.a in
-    rw c.linked2.ensures
-    (walking_more E (λ j x y h e. e.0) h (s.requires.0.links.links i (omega arith) h) c.before.before.before.before.before.before.loop.invariant
-    (adds_as a.n (MaskPair a.far.now i a.n) (E i) c.before.before.before.mark-masked.ensures
-    (λ x y hx hy d. (c.before.before.before.before.before.before.loop.invariant.here h, d))
+    rw c.linked-i-in-loop-i.ensures
+    (walking_more E (λ j x y h e. e.0) h (s.requires.0.links.links i (omega arith) h) c.before.before.before.before.before.before.loop-i.invariant
+    (adds_as a.n (MaskPair a.far.now i a.n) (E i) c.before.before.before.mark_masked.ensures
+    (λ x y hx hy d. (c.before.before.before.before.before.before.loop-i.invariant.here h, d))
     (λ x y hx hy d. d.1)))
 
 returns : tie.Need-returns invariant-loop decreases-loop
-returns c = let a = c.before.before.before.before.before.before.before.before.args in walking_done (FarRow a.n a.points.now a.far.now a.a) (λ j x y h e. e.0) c.loop-test.false c.before.loop.invariant
+returns c = let a = c.before.before.before.before.before.before.before.before.args in walking_done (FarRow a.n a.points.now a.far.now a.a) (λ j x y h e. e.0) c.loop-i-test.false c.before.loop-i.invariant
 
-pub mark-far-spec : {M : Type 1} → statement M
-mark-far-spec =
+pub mark_far_spec : {M : Type 1} → statement M
+mark_far_spec =
     tie.close
     (tie.spec
     invariant-loop
@@ -54,5 +54,5 @@ mark-far-spec =
     (λ c κs. omega (arith, c.before.before.before.before.before.before.before.before.before.before.before.before.requires.0.room, c.before.before.before.before.loop-test.true))
     loop-less
     loop-again
-    (λ c. c.before.loop.invariant.marks.long)
+    (λ c. c.before.loop-i.invariant.marks.long)
     returns)

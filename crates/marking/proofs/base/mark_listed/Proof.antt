@@ -5,24 +5,24 @@ use Rattle.marking.specs.Classes.{ListedPair}
 use Rattle.marking.proofs.base.mark_listed.Statement.{statement}
 use Rattle.marking.proofs.base.mark_listed.Tie as tie
 
-abbrev invariant-loop : tie.invariant-loop
+abbrev invariant-loop : tie.invariant-loop-k
 invariant-loop n m left-classes left-heights right-classes right-heights points heights class-first class-next slot-first slot_next pairs₀ notes₀ k₀ pairs notes k =
     Marking n m k (ListedPair n points heights left-classes left-heights right-classes right-heights) pairs₀ pairs
 
-abbrev decreases-loop : tie.decreases-loop
+abbrev decreases-loop : tie.decreases-loop-k
 decreases-loop n m left-classes left-heights right-classes right-heights points heights class-first class-next slot-first slot_next pairs₀ notes₀ k₀ pairs notes k = m - k
 
-loop-holds : tie.Need-loop-init invariant-loop decreases-loop
+loop-holds : tie.Need-loop-k-init invariant-loop decreases-loop
 loop-holds c = marking_start c.before.before.before.before.before.before.before.before.before.before.before.args.pairs.now
 
-mark-listed-pair-requires : tie.Need-mark-listed-pair-requires invariant-loop decreases-loop
-mark-listed-pair-requires c κs = let p = c.before.before.before.before.before.before.before.before.before.before.before.before.before.before.before.requires in (p.0, (p.1.0 c.before.before.before.loop.k c.before.before.loop-test.true, room_kept c.before.before.before.before.before.before.before.before.before.before.before.before.before.before.before.args.n c.before.before.before.loop.invariant.marks p.1.1))
+mark-listed-pair-requires : tie.Need-mark_listed_pair-requires invariant-loop decreases-loop
+mark-listed-pair-requires c κs = let p = c.before.before.before.before.before.before.before.before.before.before.before.before.before.before.before.requires in (p.0, (p.1.0 c.before.before.before.loop-k.k c.before.before.loop-k-test.true, room_kept c.before.before.before.before.before.before.before.before.before.before.before.before.before.before.before.args.n c.before.before.before.loop-k.invariant.marks p.1.1))
 
-loop-again : tie.Need-loop-preserved invariant-loop decreases-loop
-loop-again c = marking_more c.before.before.before.before.before.loop-test.true c.before.before.before.before.before.before.loop.invariant c.before.before.mark-listed-pair.ensures
+loop-again : tie.Need-loop-k-preserved invariant-loop decreases-loop
+loop-again c = marking_more c.before.before.before.before.before.loop-k-test.true c.before.before.before.before.before.before.loop-k.invariant c.before.before.mark_listed_pair.ensures
 
-pub mark-listed-spec : {M : Type 1} → statement M
-mark-listed-spec =
+pub mark_listed_spec : {M : Type 1} → statement M
+mark_listed_spec =
     tie.close
     (tie.spec
     invariant-loop
@@ -32,5 +32,5 @@ mark-listed-spec =
     (λ c. omega arith)
     (λ c. omega arith)
     loop-again
-    (λ c. c.before.loop.invariant.marks.long)
-    (λ c. marking_done c.loop-test.false c.before.loop.invariant))
+    (λ c. c.before.loop-k.invariant.marks.long)
+    (λ c. marking_done c.loop-k-test.false c.before.loop-k.invariant))

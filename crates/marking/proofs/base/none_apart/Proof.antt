@@ -6,47 +6,47 @@ use Rattle.marking.specs.Marks.{product_small}
 use Rattle.marking.proofs.base.none_apart.Statement.{statement}
 use Rattle.marking.proofs.base.none_apart.Tie as tie
 
-abbrev invariant-loop : tie.invariant-loop
+abbrev invariant-loop : tie.invariant-loop-w
 invariant-loop n a apart start w₀ w-end w = (w ≤ (n + 63) / 64) × ZeroWords start w apart
 
-abbrev decreases-loop : tie.decreases-loop
+abbrev decreases-loop : tie.decreases-loop-w
 decreases-loop n a apart start w₀ w-end w = (n + 63) / 64 - w
 
-pair-number-requires : tie.Need-pair-number-requires invariant-loop decreases-loop
+pair-number-requires : tie.Need-pair_number-start-requires invariant-loop decreases-loop
 pair-number-requires c κs = let p = c.before.requires in record { few = p.0; left = p.1; right = omega (arith, p.1) }
 
-add-w-end : tie.Need-overflow-add-w-end invariant-loop decreases-loop
+add-w-end : tie.Need-overflow_add-w-end invariant-loop decreases-loop
 add-w-end c = omega (arith, c.before.before.requires.0)
 
-loop-holds : tie.Need-loop-init invariant-loop decreases-loop
+loop-holds : tie.Need-loop-w-init invariant-loop decreases-loop
 loop-holds c = (omega arith, zero_start _ c.before.before.args.apart.now)
 
-mul-word-at : tie.Need-overflow-mul-word-at invariant-loop decreases-loop
-mul-word-at c = omega (arith, c.loop-test.true, c.before.before.before.before.requires.0)
+mul-word-at : tie.Need-overflow_mul-w invariant-loop decreases-loop
+mul-word-at c = omega (arith, c.loop-w-test.true, c.before.before.before.before.requires.0)
 
-add-word-at : tie.Need-overflow-add-word-at invariant-loop decreases-loop
-add-word-at c = omega (arith, c.loop-test.true, c.before.before.before.before.requires.0, c.before.before.pair-number.ensures, product_small c.before.before.before.before.args.n c.before.before.before.before.args.a c.before.before.before.before.requires.0 c.before.before.before.before.requires.1)
+add-word-at : tie.Need-overflow_add-start invariant-loop decreases-loop
+add-word-at c = omega (arith, c.loop-w-test.true, c.before.before.before.before.requires.0, c.before.before.pair_number-start.ensures, product_small c.before.before.before.before.args.n c.before.before.before.before.args.a c.before.before.before.before.requires.0 c.before.before.before.before.requires.1)
 
-word-at-requires : tie.Need-word-at-requires invariant-loop decreases-loop
-word-at-requires c κs = omega (arith, c.loop-test.true, c.before.before.before.before.requires.0, c.before.before.pair-number.ensures, product_small c.before.before.before.before.args.n c.before.before.before.before.args.a c.before.before.before.before.requires.0 c.before.before.before.before.requires.1)
+word-at-requires : tie.Need-word_at-requires invariant-loop decreases-loop
+word-at-requires c κs = omega (arith, c.loop-w-test.true, c.before.before.before.before.requires.0, c.before.before.pair_number-start.ensures, product_small c.before.before.before.before.args.n c.before.before.before.before.args.a c.before.before.before.before.requires.0 c.before.before.before.before.requires.1)
 
-returns : tie.Need-returns invariant-loop decreases-loop
+returns : tie.Need-returns-then-word_at-ne0 invariant-loop decreases-loop
 returns c = λ e. false_true refl e
 
-add-w : tie.Need-overflow-add-w invariant-loop decreases-loop
-add-w c = omega (arith, c.before.before.loop-test.true, c.before.before.before.before.before.before.requires.0)
+add-w : tie.Need-overflow_step-w invariant-loop decreases-loop
+add-w c = omega (arith, c.before.before.loop-w-test.true, c.before.before.before.before.before.before.requires.0)
 
-loop-less : tie.Need-loop-smaller invariant-loop decreases-loop
-loop-less c = omega (arith, c.before.before.loop-test.true)
+loop-less : tie.Need-loop-w-smaller invariant-loop decreases-loop
+loop-less c = omega (arith, c.before.before.loop-w-test.true)
 
-loop-again : tie.Need-loop-preserved invariant-loop decreases-loop
-loop-again c = (omega (arith, c.before.before.loop-test.true), zero_more c.before.word_at.ensures c.if1.false c.before.before.before.loop.invariant.1)
+loop-again : tie.Need-loop-w-preserved invariant-loop decreases-loop
+loop-again c = (omega (arith, c.before.before.loop-w-test.true), zero_more c.before.word_at.ensures c.if-word_at-ne0.false c.before.before.before.loop-w.invariant.1)
 
-returns-2 : tie.Need-returns-2 invariant-loop decreases-loop
-returns-2 c = λ e. zero_none c.before.before.before.before.args.n c.before.before.before.before.args.a (omega (arith, c.loop-test.false)) (rw c.before.before.pair-number.ensures at c.before.loop.invariant.1)
+returns-2 : tie.Need-returns invariant-loop decreases-loop
+returns-2 c = λ e. zero_none c.before.before.before.before.args.n c.before.before.before.before.args.a (omega (arith, c.loop-w-test.false)) (rw c.before.before.pair_number-start.ensures at c.before.loop-w.invariant.1)
 
-pub none-apart-spec : {M : Type 1} → statement M
-none-apart-spec =
+pub none_apart_spec : {M : Type 1} → statement M
+none_apart_spec =
     tie.close
     (tie.spec
     invariant-loop

@@ -4,23 +4,23 @@ use Rattle.marking.specs.Rows.{Gathering, gathering_start, gathering_more, gathe
 use Rattle.marking.proofs.base.own_homes.Statement.{statement}
 use Rattle.marking.proofs.base.own_homes.Tie as tie
 
-abbrev invariant-loop : tie.invariant-loop
+abbrev invariant-loop : tie.invariant-loop-t
 invariant-loop n a points class-first class-next own₀ t₀ own t = Gathering n points a t 8 own
 
-abbrev decreases-loop : tie.decreases-loop
+abbrev decreases-loop : tie.decreases-loop-t
 decreases-loop n a points class-first class-next own₀ t₀ own t = n - t
 
-loop-holds : tie.Need-loop-init invariant-loop decreases-loop
-loop-holds c = let s = c.before.before.before.before.before in rw c.linked.ensures (gathering_start s.requires.1.1.1 (s.requires.0.starts.from s.args.a (omega (arith, s.requires.1.0, s.requires.1.1.0))))
+loop-holds : tie.Need-loop-t-init invariant-loop decreases-loop
+loop-holds c = let s = c.before.before.before.before.before in rw c.linked-t.ensures (gathering_start s.requires.1.1.1 (s.requires.0.starts.from s.args.a (omega (arith, s.requires.1.0, s.requires.1.1.0))))
 
-loop-less : tie.Need-loop-smaller invariant-loop decreases-loop
-loop-less c = let h = c.before.before.before.before.before.loop-test.true in let f = (c.before.before.before.before.before.before.before.before.before.before.before.before.requires.0.links.links c.before.before.before.before.before.before.loop.t (omega arith) h).after in omega (arith, c.linked2.ensures)
+loop-less : tie.Need-loop-t-smaller invariant-loop decreases-loop
+loop-less c = let h = c.before.before.before.before.before.loop-t-test.true in let f = (c.before.before.before.before.before.before.before.before.before.before.before.before.requires.0.links.links c.before.before.before.before.before.before.loop-t.t (omega arith) h).after in omega (arith, c.linked-t-in-loop-t.ensures)
 
-loop-again : tie.Need-loop-preserved invariant-loop decreases-loop
-loop-again c = let h = c.before.before.before.before.before.loop-test.true in rw c.linked2.ensures (gathering_more h (c.before.before.before.before.before.before.before.before.before.before.before.before.requires.0.links.links c.before.before.before.before.before.before.loop.t (omega arith) h) c.before.before.before.before.before.before.loop.invariant c.before.before.before.put.ensures)
+loop-again : tie.Need-loop-t-preserved invariant-loop decreases-loop
+loop-again c = let h = c.before.before.before.before.before.loop-t-test.true in rw c.linked-t-in-loop-t.ensures (gathering_more h (c.before.before.before.before.before.before.before.before.before.before.before.before.requires.0.links.links c.before.before.before.before.before.before.loop-t.t (omega arith) h) c.before.before.before.before.before.before.loop-t.invariant c.before.before.before.put.ensures)
 
-pub own-homes-spec : {M : Type 1} → statement M
-own-homes-spec =
+pub own_homes_spec : {M : Type 1} → statement M
+own_homes_spec =
     tie.close
     (tie.spec
     invariant-loop
@@ -31,5 +31,5 @@ own-homes-spec =
     (λ c κs. omega (arith, c.before.before.before.before.before.before.before.before.before.before.before.requires.0.room, c.before.before.before.before.loop-test.true))
     loop-less
     loop-again
-    (λ c. c.before.loop.invariant.long ∙ sym (zeros_long c.before.before.before.before.before.before.before.requires.1.1.1))
-    (λ c. gathering_done c.loop-test.false c.before.loop.invariant))
+    (λ c. c.before.loop-t.invariant.long ∙ sym (zeros_long c.before.before.before.before.before.before.before.requires.1.1.1))
+    (λ c. gathering_done c.loop-t-test.false c.before.loop-t.invariant))

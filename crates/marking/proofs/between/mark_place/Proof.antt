@@ -6,46 +6,46 @@ use Rattle.marking.specs.Pairs.{PairHere, here_slot}
 use Rattle.marking.proofs.between.mark_place.Statement.{statement}
 use Rattle.marking.proofs.between.mark_place.Tie as tie
 
-abbrev invariant-loop : tie.invariant-loop
+abbrev invariant-loop : tie.invariant-loop-j
 invariant-loop n i class height classes heights slot-first slot_next pairs₀ notes₀ j₀ pairs notes j =
     Walking n (place_slot classes heights) (slot_of class height) (PairHere classes heights class height i.0) j pairs₀ pairs
 
-abbrev decreases-loop : tie.decreases-loop
+abbrev decreases-loop : tie.decreases-loop-j
 decreases-loop n i class height classes heights slot-first slot_next pairs₀ notes₀ j₀ pairs notes j = n - j
 
 slot-requires : tie.Need-slot-requires invariant-loop decreases-loop
 slot-requires c κs = let p = c.before.before.before.before.before.requires in (omega (arith, p.1.1.0, p.0.few), omega (arith, p.1.1.1.0))
 
-linked-requires : tie.Need-linked-requires invariant-loop decreases-loop
+linked-requires : tie.Need-linked-j-requires invariant-loop decreases-loop
 linked-requires c κs = rw c.before.before.before.before.before.before.requires.1.0.chains.starts.long c.slot.ensures.1
 
-loop-holds : tie.Need-loop-init invariant-loop decreases-loop
+loop-holds : tie.Need-loop-j-init invariant-loop decreases-loop
 loop-holds c = let s = c.before.before.before.before.before.before.before in
-    rw (c.linked.ensures, c.before.slot.ensures.0)
+    rw (c.linked-j.ensures, c.before.slot.ensures.0)
     (walking_start (PairHere s.args.classes.now s.args.heights.now s.args.class s.args.height s.args.i.0) (λ j x y h e. here_slot s.args.i.0 j x y e) s.args.pairs.now
     (slot_start s.requires.1.0 (slot_of s.args.class s.args.height) (rw c.before.slot.ensures.0 at c.before.slot.ensures.1)))
 
-mark-if-requires : tie.Need-mark-if-requires invariant-loop decreases-loop
+mark-if-requires : tie.Need-mark_if-requires invariant-loop decreases-loop
 mark-if-requires c κs = let s = c.before.before.before.before.before.before.before.before.before.before.before in
-    (s.requires.0, (record { few = s.requires.0.few; left = s.requires.1.1.1.1.0; right = c.before.before.loop-test.true }, room_kept s.args.n c.before.before.before.loop.invariant.marks s.requires.1.1.1.1.1))
+    (s.requires.0, (record { few = s.requires.0.few; left = s.requires.1.1.1.1.0; right = c.before.before.loop-j-test.true }, room_kept s.args.n c.before.before.before.loop-j.invariant.marks s.requires.1.1.1.1.1))
 
-linked-requires-2 : tie.Need-linked-requires-2 invariant-loop decreases-loop
-linked-requires-2 c κs = omega (arith, c.before.before.before.before.before.before.before.before.before.before.before.before.before.before.requires.1.0.chains.room, c.before.before.before.before.before.loop-test.true)
+linked-requires-2 : tie.Need-linked-j-requires-in-loop-j invariant-loop decreases-loop
+linked-requires-2 c κs = omega (arith, c.before.before.before.before.before.before.before.before.before.before.before.before.before.before.requires.1.0.chains.room, c.before.before.before.before.before.loop-j-test.true)
 
-loop-less : tie.Need-loop-smaller invariant-loop decreases-loop
-loop-less c = let f = (slot_link c.before.before.before.before.before.before.before.before.before.before.before.before.before.before.before.requires.1.0 c.before.before.before.before.before.before.before.loop.j c.before.before.before.before.before.before.loop-test.true).after in omega (arith, c.linked2.ensures, c.before.before.before.before.before.before.loop-test.true)
+loop-less : tie.Need-loop-j-smaller invariant-loop decreases-loop
+loop-less c = let f = (slot_link c.before.before.before.before.before.before.before.before.before.before.before.before.before.before.before.requires.1.0 c.before.before.before.before.before.before.before.loop-j.j c.before.before.before.before.before.before.loop-j-test.true).after in omega (arith, c.linked-j-in-loop-j.ensures, c.before.before.before.before.before.before.loop-j-test.true)
 
-loop-again : tie.Need-loop-preserved invariant-loop decreases-loop
+loop-again : tie.Need-loop-j-preserved invariant-loop decreases-loop
 loop-again c = let s = c.before.before.before.before.before.before.before.before.before.before.before.before.before.before.before in
-    rw c.linked2.ensures
+    rw c.linked-j-in-loop-j.ensures
     (walking_more (PairHere s.args.classes.now s.args.heights.now s.args.class s.args.height s.args.i.0) (λ j x y h e. here_slot s.args.i.0 j x y e)
-    c.before.before.before.before.before.before.loop-test.true (slot_link s.requires.1.0 c.before.before.before.before.before.before.before.loop.j c.before.before.before.before.before.before.loop-test.true) c.before.before.before.before.before.before.before.loop.invariant c.before.before.before.mark-if.ensures)
+    c.before.before.before.before.before.before.loop-j-test.true (slot_link s.requires.1.0 c.before.before.before.before.before.before.before.loop-j.j c.before.before.before.before.before.before.loop-j-test.true) c.before.before.before.before.before.before.before.loop-j.invariant c.before.before.before.mark_if.ensures)
 
 returns : tie.Need-returns invariant-loop decreases-loop
-returns c = let s = c.before.before.before.before.before.before.before.before.before in walking_done (PairHere s.args.classes.now s.args.heights.now s.args.class s.args.height s.args.i.0) (λ j x y h e. here_slot s.args.i.0 j x y e) c.loop-test.false c.before.loop.invariant
+returns c = let s = c.before.before.before.before.before.before.before.before.before in walking_done (PairHere s.args.classes.now s.args.heights.now s.args.class s.args.height s.args.i.0) (λ j x y h e. here_slot s.args.i.0 j x y e) c.loop-j-test.false c.before.loop-j.invariant
 
-pub mark-place-spec : {M : Type 1} → statement M
-mark-place-spec =
+pub mark_place_spec : {M : Type 1} → statement M
+mark_place_spec =
     tie.close
     (tie.spec
     invariant-loop
@@ -57,5 +57,5 @@ mark-place-spec =
     linked-requires-2
     loop-less
     loop-again
-    (λ c. c.before.loop.invariant.marks.long)
+    (λ c. c.before.loop-j.invariant.marks.long)
     returns)

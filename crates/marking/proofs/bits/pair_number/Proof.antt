@@ -4,14 +4,14 @@ use Rattle.marking.specs.Marks.{product_small}
 use Rattle.marking.proofs.bits.pair_number.Statement.{statement}
 use Rattle.marking.proofs.bits.pair_number.Tie as tie
 
-mul-result : tie.Need-overflow-mul-result
+mul-result : tie.Need-overflow_mul-result
 mul-result c = omega (arith, product_small c.before.args.n c.before.args.i.0 c.before.requires.few c.before.requires.left)
 
-add-result : tie.Need-overflow-add-result
+add-result : tie.Need-overflow_add-result
 add-result c = omega (arith, product_small c.before.before.args.n c.before.before.args.i.0 c.before.before.requires.few c.before.before.requires.left, c.before.before.requires.few, c.before.before.requires.right)
 
 returns : tie.Need-returns
 returns c = search rules
 
-pub pair-number-spec : {M : Type 1} → statement M
-pair-number-spec = tie.close (tie.spec mul-result add-result returns)
+pub pair_number_spec : {M : Type 1} → statement M
+pair_number_spec = tie.close (tie.spec mul-result add-result returns)

@@ -7,41 +7,41 @@ use Rattle.marking.specs.Known.{known_adds}
 use Rattle.marking.proofs.distance.mark_many.Statement.{statement}
 use Rattle.marking.proofs.distance.mark_many.Tie as tie
 
-is-indexed-requires : tie.Need-is-indexed-requires
+is-indexed-requires : tie.Need-is_indexed-requires
 is-indexed-requires c κs = let p = c.before.before.before.before.before.before.before.before.before.before.before.before.before.requires in (p.0.0.column.few, (p.1.0, (p.1.1.0, (p.0.1.levels_long, p.1.1.1.1.1.0))))
 
-mark-indexed-requires : tie.Need-mark-indexed-requires
+mark-indexed-requires : tie.Need-mark_indexed-requires
 mark-indexed-requires c κs = let p = c.before.before.before.before.before.before.before.before.before.before.before.before.before.before.before.before.before.requires in
-    let r = c.before.before.before.is-indexed.ensures c.before.before.if1.true in
+    let r = c.before.before.before.is_indexed.ensures c.before.before.if-is_indexed.true in
     ((p.0.0.column, (p.0.0.by_slot, p.0.1)), (p.1.0, (p.1.1.0, (p.1.1.1.0, (p.1.1.1.1.0, (r.0, (r.1, p.1.1.1.1.1.1.0)))))))
 
-is-indexed-requires-2 : tie.Need-is-indexed-requires-2
+is-indexed-requires-2 : tie.Need-is_indexed-requires-2
 is-indexed-requires-2 c κs = let p = c.before.before.before.before.before.before.before.before.before.before.before.before.before.before.before.requires in (p.0.0.column.few, (p.1.1.0, (p.1.0, (p.0.1.levels_long, p.1.1.1.1.1.0))))
 
-mark-indexed-requires-2 : tie.Need-mark-indexed-requires-2
+mark-indexed-requires-2 : tie.Need-mark_indexed-requires-then-is_indexed-2
 mark-indexed-requires-2 c κs = let p = c.before.before.before.before.before.before.before.before.before.before.before.before.before.before.before.before.before.before.before.requires in
-    let r = c.before.before.before.is-indexed2.ensures c.before.before.if2.true in
+    let r = c.before.before.before.is_indexed-2.ensures c.before.before.if-is_indexed-2.true in
     ((p.0.0.column, (p.0.0.by_slot, p.0.1)), (p.1.1.0, (p.1.0, (p.1.1.1.1.0, (p.1.1.1.0, (r.0, (r.1, p.1.1.1.1.1.1.0)))))))
 
-returns-2 : tie.Need-returns-2
+returns-2 : tie.Need-returns-then-is_indexed-2
 returns-2 c = let s = c.before.before.before.before.before.before.before.before.before.before.before.before.before.before.before.before.before.before.before.before.before.before.args in
     let points = s.points.now in
     let heights = s.heights.now in
-    adds_as s.n (AtEither points heights s.b s.q s.a s.p) (AtEither points heights s.a s.p s.b s.q) c.before.before.mark-indexed2.ensures
+    adds_as s.n (AtEither points heights s.b s.q s.a s.p) (AtEither points heights s.a s.p s.b s.q) c.before.before.mark_indexed-then-is_indexed-2.ensures
     (λ x y hx hy d. exchange points heights s.b s.q s.a s.p x y d)
     (λ x y hx hy d. exchange points heights s.a s.p s.b s.q x y d)
 
-is-known-requires : tie.Need-is-known-requires
+is-known-requires : tie.Need-is_known-requires
 is-known-requires c κs = let p = c.before.before.before.before.before.before.before.before.before.before.before.before.before.before.before.before.before.before.before.before.before.requires in (p.0.0, (omega (arith, p.1.0), (omega (arith, p.1.1.0), (p.1.1.1.1.0, p.1.1.1.1.1.1.0))))
 
-returns-3 : tie.Need-returns-3
-returns-3 c = known_adds c.before.before.before.before.before.before.before.before.before.before.before.before.before.before.before.before.before.before.before.before.before.before.before.requires.1.1.1.1.1.1.1 (c.before.is_known.ensures c.if4.true)
+returns-3 : tie.Need-returns-then-is_known
+returns-3 c = known_adds c.before.before.before.before.before.before.before.before.before.before.before.before.before.before.before.before.before.before.before.before.before.before.before.requires.1.1.1.1.1.1.1 (c.before.is_known.ensures c.if-is_known.true)
 
-mark-between-requires : tie.Need-mark-between-requires
+mark-between-requires : tie.Need-mark_between-requires
 mark-between-requires c κs = let p = c.before.before.before.before.before.before.before.before.before.before.before.before.before.before.before.before.before.before.before.before.before.before.requires in (p.0.0, (omega (arith, p.1.0), (omega (arith, p.1.1.0), (p.1.1.1.0, (p.1.1.1.1.0, p.1.1.1.1.1.1.0)))))
 
-pub mark-many-spec : {M : Type 1} → statement M
-mark-many-spec =
+pub mark_many_spec : {M : Type 1} → statement M
+mark_many_spec =
     tie.close
     (tie.spec
     is-indexed-requires

@@ -4,31 +4,31 @@ use Rattle.marking.specs.Far.{FarOthers, one_below, others_done, others_more, ot
 use Rattle.marking.proofs.far.far_others.Statement.{statement}
 use Rattle.marking.proofs.far.far_others.Tie as tie
 
-abbrev invariant-loop : tie.invariant-loop
+abbrev invariant-loop : tie.invariant-loop-t
 invariant-loop n a selves others other-first other-next points apart far₀ t₀ far t = FarOthers n a apart points t far₀ far
 
-abbrev decreases-loop : tie.decreases-loop
+abbrev decreases-loop : tie.decreases-loop-t
 decreases-loop n a selves others other-first other-next points apart far₀ t₀ far t = n - t
 
-loop-holds : tie.Need-loop-init invariant-loop decreases-loop
-loop-holds c = let s = c.before.before.before.before.before.before.before.before in rw c.linked.ensures (others_start s.requires.0 s.args.far.now (s.requires.0.chains.starts.from 1 (omega arith)))
+loop-holds : tie.Need-loop-t-init invariant-loop decreases-loop
+loop-holds c = let s = c.before.before.before.before.before.before.before.before in rw c.linked-t.ensures (others_start s.requires.0 s.args.far.now (s.requires.0.chains.starts.from 1 (omega arith)))
 
-put-far-requires : tie.Need-put-far-requires invariant-loop decreases-loop
+put-far-requires : tie.Need-put_far-requires invariant-loop decreases-loop
 put-far-requires c κs = let p = c.before.before.before.before.before.before.before.before.before.before.before.requires in
-    let h = c.before.loop-test.true in
-    let l = c.before.before.loop in
+    let h = c.before.loop-t-test.true in
+    let l = c.before.before.loop-t in
     (record { few = p.1.0.few; left = p.1.0.left; right = h }, (p.1.1.0, (one_below _ _ _ (l.invariant.here h), (p.1.1.1.0, l.invariant.long ∙ p.1.1.1.1))))
 
-loop-less : tie.Need-loop-smaller invariant-loop decreases-loop
-loop-less c = let h = c.before.before.before.before.before.loop-test.true in let f = (c.before.before.before.before.before.before.before.before.before.before.before.before.before.before.before.requires.0.chains.links.links c.before.before.before.before.before.before.loop.t (omega arith) h).after in omega (arith, c.linked2.ensures)
+loop-less : tie.Need-loop-t-smaller invariant-loop decreases-loop
+loop-less c = let h = c.before.before.before.before.before.loop-t-test.true in let f = (c.before.before.before.before.before.before.before.before.before.before.before.before.before.before.before.requires.0.chains.links.links c.before.before.before.before.before.before.loop-t.t (omega arith) h).after in omega (arith, c.linked-t-in-loop-t.ensures)
 
-loop-again : tie.Need-loop-preserved invariant-loop decreases-loop
+loop-again : tie.Need-loop-t-preserved invariant-loop decreases-loop
 loop-again c = let S = c.before.before.before.before.before.before.before.before.before.before.before.before.before.before.before.requires.0 in
-    let h = c.before.before.before.before.before.loop-test.true in
-    rw c.linked2.ensures (others_more S h (S.chains.links.links c.before.before.before.before.before.before.loop.t (omega arith) h) c.before.before.before.before.before.before.loop.invariant c.before.before.before.put-far.ensures)
+    let h = c.before.before.before.before.before.loop-t-test.true in
+    rw c.linked-t-in-loop-t.ensures (others_more S h (S.chains.links.links c.before.before.before.before.before.before.loop-t.t (omega arith) h) c.before.before.before.before.before.before.loop-t.invariant c.before.before.before.put_far.ensures)
 
-pub far-others-spec : {M : Type 1} → statement M
-far-others-spec =
+pub far_others_spec : {M : Type 1} → statement M
+far_others_spec =
     tie.close
     (tie.spec
     invariant-loop
@@ -39,5 +39,5 @@ far-others-spec =
     (λ c κs. omega (arith, c.before.before.before.before.before.before.before.before.before.before.before.before.before.before.requires.0.chains.room, c.before.before.before.before.loop-test.true))
     loop-less
     loop-again
-    (λ c. c.before.loop.invariant.long)
-    (λ c. others_done c.loop-test.false c.before.loop.invariant))
+    (λ c. c.before.loop-t.invariant.long)
+    (λ c. others_done c.loop-t-test.false c.before.loop-t.invariant))

@@ -4,10 +4,10 @@ use Rattle.marking.specs.Pairs.{all_indexed}
 use Rattle.marking.proofs.indexed.mark_indexed.Statement.{statement}
 use Rattle.marking.proofs.indexed.mark_indexed.Tie as tie
 
-bucket-requires : tie.Need-bucket-requires
+bucket-requires : tie.Need-bucket-k-requires
 bucket-requires c κs = let p = c.before.before.before.before.before.before.before.before.before.before.before.requires in (omega (arith, p.0.0.few, p.1.0), (omega (arith, p.0.0.few, p.1.1.0), (p.1.1.1.0, p.1.1.1.1.0)))
 
-mark-candidates-requires : tie.Need-mark-candidates-requires
+mark-candidates-requires : tie.Need-mark_candidates-requires
 mark-candidates-requires c κs = let p = c.before.before.before.before.before.before.before.before.before.before.before.before.before.before.before.before.requires in ((p.0.0, (p.0.1.0, p.0.1.1.from_long)), (p.1.0, (p.1.1.0, (p.1.1.1.1.0, p.1.1.1.1.1.1.1))))
 
 returns : tie.Need-returns
@@ -15,7 +15,7 @@ returns c = let s = c.before.before.before.before.before.before.before.before.be
     let p = c.before.before.before.before.before.before.before.before.before.before.before.before.before.before.before.before.before.before.before.requires in
     all_indexed s.points.now s.heights.now s.apart.now s.levels.now s.from.now s.order.now s.starts.now s.entries.now s.a s.p s.b s.q
     p.0.0 p.0.1.1 p.1.0 p.1.1.0 p.1.1.1.1.0 p.1.1.1.1.1.0 p.1.1.1.1.1.1.0
-    (rw c.before.before.before.before.before.before.before.bucket.ensures.0 at c.before.before.before.before.before.before.start_of_lem.ensures) (rw c.before.before.before.before.before.before.before.bucket.ensures.0 at c.before.before.before.before.before.start-of2.ensures) c.before.before.mark-candidates.ensures
+    (rw c.before.before.before.before.before.before.before.bucket-k.ensures.0 at c.before.before.before.before.before.before.start_of_lem.ensures) (rw c.before.before.before.before.before.before.before.bucket-k.ensures.0 at c.before.before.before.before.before.start_of-end.ensures) c.before.before.mark_candidates.ensures
 
-pub mark-indexed-spec : {M : Type 1} → statement M
-mark-indexed-spec = tie.close (tie.spec bucket-requires (λ c κs. search rules) (λ c. omega arith) (λ c κs. search rules) mark-candidates-requires (λ c. search rules) returns)
+pub mark_indexed_spec : {M : Type 1} → statement M
+mark_indexed_spec = tie.close (tie.spec bucket-requires (λ c κs. search rules) (λ c. omega arith) (λ c κs. search rules) mark-candidates-requires (λ c. search rules) returns)

@@ -16,14 +16,14 @@ returns c =
     adds_then n (Upto (length s.propositions.now) (BlockPair (proposition_in s.propositions.now) s.reps.now))
     (Upto n (λ i. Upto n (VariablePair (term_in s.terms.now) s.reps.now i)))
     (ApartClasses (set_of s.terms.now s.propositions.now) s.reps.now)
-    c.before.before.before.before.before.before.mark-blocks.ensures
-    c.before.before.mark-variables.ensures
+    c.before.before.before.before.before.before.mark_blocks.ensures
+    c.before.before.mark_variables.ensures
     (λ x y hx hy d. d)
     (λ x y hx hy d. inl d)
     (λ x y hx hy d. inr d)
 
-pub apart-classes-spec : {M : Type 1} → statement M
-apart-classes-spec =
+pub apart_classes_spec : {M : Type 1} → statement M
+apart_classes_spec =
     tie.close
     (tie.spec
     (λ c κs. search rules)

@@ -6,9 +6,9 @@ use Rattle.tables.specs.Records.{TermRecord}
 use Rattle.placing.proofs.apart.is_variable.Statement.{statement}
 use Rattle.placing.proofs.apart.is_variable.Tie as tie
 
-pub is-variable-spec : {M : Type 1} → statement M
-is-variable-spec =
+pub is_variable_spec : {M : Type 1} → statement M
+is_variable_spec =
     tie.close
     (tie.spec
     (λ c κs. search rules)
-    (λ c. ap (λ (r : TermRecord). eqb r.kind 1) c.before.term-at.ensures))
+    (λ c. ap (λ (r : TermRecord). eqb r.kind 1) c.before.term_at.ensures))

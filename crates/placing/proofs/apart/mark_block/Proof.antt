@@ -11,25 +11,25 @@ use Rattle.placing.specs.Apart.{BlockPair}
 use Rattle.placing.proofs.apart.mark_block.Statement.{statement}
 use Rattle.placing.proofs.apart.mark_block.Tie as tie
 
-returns : tie.Need-returns
+returns : tie.Need-returns-then-r-ne-BLOCK_DISEQUALITY
 returns c =
     let s = c.before.before.before.before.before in
     adds_none (length s.args.terms.now) (BlockPair (proposition_in s.args.propositions.now) s.args.reps.now s.args.k.0) _
-    (λ x y d. c.if1.true (ap (λ (r : PropositionRecord). r.kind) c.before.before.proposition-at.ensures ∙ d.0))
+    (λ x y d. c.if-r-ne-BLOCK_DISEQUALITY.true (ap (λ (r : PropositionRecord). r.kind) c.before.before.proposition_at-r.ensures ∙ d.0))
 
-class-of-requires : tie.Need-class-of-requires
+class-of-requires : tie.Need-class_of-a-requires
 class-of-requires c κs =
     let s = c.before.before.before.before.before.before in
-    let e = c.index.ensures ∙ ap (λ (r : PropositionRecord). r.left) c.before.before.before.proposition-at.ensures in
+    let e = c.index.ensures ∙ ap (λ (r : PropositionRecord). r.left) c.before.before.before.proposition_at-r.ensures in
     omega (arith, (sides_below (length s.args.terms.now) (length s.args.propositions.now) (proposition_in s.args.propositions.now) s.requires.0.accepted s.args.k.0 s.requires.1.0).0, s.requires.0.classes.long)
 
-class-of-requires-2 : tie.Need-class-of-requires-2
+class-of-requires-2 : tie.Need-class_of-b-requires
 class-of-requires-2 c κs =
     let s = c.before.before.before.before.before.before.before.before in
-    let e = c.index2.ensures ∙ ap (λ (r : PropositionRecord). r.right) c.before.before.before.before.before.proposition-at.ensures in
+    let e = c.index-2.ensures ∙ ap (λ (r : PropositionRecord). r.right) c.before.before.before.before.before.proposition_at-r.ensures in
     omega (arith, (sides_below (length s.args.terms.now) (length s.args.propositions.now) (proposition_in s.args.propositions.now) s.requires.0.accepted s.args.k.0 s.requires.1.0).1, s.requires.0.classes.long)
 
-set-both-requires : tie.Need-set-both-requires
+set-both-requires : tie.Need-set_both-requires
 set-both-requires c κs =
     let s = c.before.before.before.before.before.before.before.before.before.before in
     let r = proposition_in s.args.propositions.now s.args.k.0 in
@@ -38,23 +38,23 @@ set-both-requires c κs =
     let right = s.requires.0.classes.below r.right b.1 in (
       record {
         few = s.requires.0.classes.few;
-        left = rw (c.before.before.before.class_of.ensures, c.before.before.before.before.index.ensures ∙ ap (λ (r : PropositionRecord). r.left) c.before.before.before.before.before.before.before.proposition-at.ensures) left;
-        right = rw (c.before.class-of2.ensures, c.before.before.index2.ensures ∙ ap (λ (r : PropositionRecord). r.right) c.before.before.before.before.before.before.before.proposition-at.ensures) right;
+        left = rw (c.before.before.before.class_of-a.ensures, c.before.before.before.before.index.ensures ∙ ap (λ (r : PropositionRecord). r.left) c.before.before.before.before.before.before.before.proposition_at-r.ensures) left;
+        right = rw (c.before.class_of-b.ensures, c.before.before.index-2.ensures ∙ ap (λ (r : PropositionRecord). r.right) c.before.before.before.before.before.before.before.proposition_at-r.ensures) right;
       },
       s.requires.1.1,
     )
 
-returns-2 : tie.Need-returns-2
+returns-2 : tie.Need-returns
 returns-2 c =
     let s = c.before.before.before.before.before.before.before.before.before.before.before.before.before in
-    let kind = sym (ap (λ (r : PropositionRecord). r.kind) c.before.before.before.before.before.before.before.before.before.before.proposition-at.ensures) ∙ c.before.before.before.before.before.before.before.before.if1.false in
+    let kind = sym (ap (λ (r : PropositionRecord). r.kind) c.before.before.before.before.before.before.before.before.before.before.proposition_at-r.ensures) ∙ c.before.before.before.before.before.before.before.before.if-r-ne-BLOCK_DISEQUALITY.false in
     adds_as (length s.args.terms.now) _ (BlockPair (proposition_in s.args.propositions.now) s.args.reps.now s.args.k.0)
-    (rw (c.before.before.before.before.before.before.class_of.ensures, c.before.before.before.before.class-of2.ensures, c.before.before.before.before.before.before.before.index.ensures ∙ ap (λ (r : PropositionRecord). r.left) c.before.before.before.before.before.before.before.before.before.before.proposition-at.ensures, c.before.before.before.before.before.index2.ensures ∙ ap (λ (r : PropositionRecord). r.right) c.before.before.before.before.before.before.before.before.before.before.proposition-at.ensures) at c.before.before.set_both.ensures)
+    (rw (c.before.before.before.before.before.before.class_of-a.ensures, c.before.before.before.before.class_of-b.ensures, c.before.before.before.before.before.before.before.index.ensures ∙ ap (λ (r : PropositionRecord). r.left) c.before.before.before.before.before.before.before.before.before.before.proposition_at-r.ensures, c.before.before.before.before.before.index-2.ensures ∙ ap (λ (r : PropositionRecord). r.right) c.before.before.before.before.before.before.before.before.before.before.proposition_at-r.ensures) at c.before.before.set_both.ensures)
     (λ x y hx hy d. (kind, d))
     (λ x y hx hy d. d.1)
 
-pub mark-block-spec : {M : Type 1} → statement M
-mark-block-spec =
+pub mark_block_spec : {M : Type 1} → statement M
+mark_block_spec =
     tie.close
     (tie.spec
     (λ c κs. search rules)

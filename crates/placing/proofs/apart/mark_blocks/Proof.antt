@@ -8,14 +8,14 @@ use Rattle.placing.specs.Apart.{BlockPair}
 use Rattle.placing.proofs.apart.mark_blocks.Statement.{statement}
 use Rattle.placing.proofs.apart.mark_blocks.Tie as tie
 
-abbrev invariant-loop : tie.invariant-loop
+abbrev invariant-loop : tie.invariant-loop-k
 invariant-loop terms propositions reps table₀ k₀ k-end table k = Marking (length terms) (length propositions) k (BlockPair (proposition_in propositions) reps) table₀ table
 
-abbrev decreases-loop : tie.decreases-loop
+abbrev decreases-loop : tie.decreases-loop-k
 decreases-loop terms propositions reps table₀ k₀ k-end table k = length propositions - k
 
-pub mark-blocks-spec : {M : Type 1} → statement M
-mark-blocks-spec =
+pub mark_blocks_spec : {M : Type 1} → statement M
+mark_blocks_spec =
     tie.close
     (tie.spec
     invariant-loop
@@ -24,6 +24,6 @@ mark-blocks-spec =
     (λ c κs. (c.before.before.before.before.before.requires.0, (c.before.loop-test.true, room_kept (length c.before.before.before.before.before.args.terms.now) c.before.before.loop.invariant.marks c.before.before.before.before.before.requires.1)))
     (λ c. omega arith)
     (λ c. omega arith)
-    (λ c. marking_more c.before.before.before.before.loop-test.true c.before.before.before.before.before.loop.invariant c.before.before.mark-block.ensures)
-    (λ c. c.before.loop.invariant.marks.long)
-    (λ c. marking_done c.loop-test.false c.before.loop.invariant))
+    (λ c. marking_more c.before.before.before.before.loop-k-test.true c.before.before.before.before.before.loop-k.invariant c.before.before.mark_block.ensures)
+    (λ c. c.before.loop-k.invariant.marks.long)
+    (λ c. marking_done c.loop-k-test.false c.before.loop-k.invariant))

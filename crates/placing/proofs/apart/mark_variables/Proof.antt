@@ -7,19 +7,19 @@ use Rattle.placing.specs.Apart.{gathered_below, variables_marked}
 use Rattle.placing.proofs.apart.mark_variables.Statement.{statement}
 use Rattle.placing.proofs.apart.mark_variables.Tie as tie
 
-mark-rows-requires : tie.Need-mark-rows-requires
+mark-rows-requires : tie.Need-mark_rows-requires
 mark-rows-requires c κs =
     let a = c.before.before.before.before.before.before.before.before.before.before.args in
     let p = c.before.before.before.before.before.before.before.before.before.before.requires in
     let n = length a.terms.now in
-    let G = c.before.before.before.before.before.put-variables.ensures in
+    let G = c.before.before.before.before.before.put_variables.ensures in
     (p.0, (gathered_below n (term_in a.terms.now) a.reps.now p.0.below G, room_kept n G.marks p.1))
 
 returns : tie.Need-returns
-returns c = let a = c.before.before.before.before.before.before.before.before.before.before.before.before.before.args in variables_marked (length a.terms.now) (term_in a.terms.now) a.reps.now c.before.before.before.before.before.before.before.before.put-variables.ensures c.before.before.mark-rows.ensures
+returns c = let a = c.before.before.before.before.before.before.before.before.before.before.before.before.before.args in variables_marked (length a.terms.now) (term_in a.terms.now) a.reps.now c.before.before.before.before.before.before.before.before.put_variables.ensures c.before.before.mark_rows.ensures
 
-pub mark-variables-spec : {M : Type 1} → statement M
-mark-variables-spec =
+pub mark_variables_spec : {M : Type 1} → statement M
+mark_variables_spec =
     tie.close
     (tie.spec
     (λ c. search rules)

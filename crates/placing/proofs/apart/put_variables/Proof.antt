@@ -12,37 +12,37 @@ use Rattle.placing.specs.Apart.{Gathered, gathered_done, gathered_more, gathered
 use Rattle.placing.proofs.apart.put_variables.Statement.{statement}
 use Rattle.placing.proofs.apart.put_variables.Tie as tie
 
-abbrev invariant-loop : tie.invariant-loop
+abbrev invariant-loop : tie.invariant-loop-i
 invariant-loop terms reps mask₀ table₀ i₀ i-end mask table i = Gathered (length terms) (term_in terms) reps i mask table₀ table
 
-abbrev decreases-loop : tie.decreases-loop
+abbrev decreases-loop : tie.decreases-loop-i
 decreases-loop terms reps mask₀ table₀ i₀ i-end mask table i = length terms - i
 
-loop-again : tie.Need-loop-preserved invariant-loop decreases-loop
+loop-again : tie.Need-loop-i-preserved-then-not-is_variable invariant-loop decreases-loop
 loop-again c =
     let T = c.before.before.before.before.before.before.before.args.terms.now in
-    gathered_skip (length T) (term_in T) c.before.before.before.before.before.before.before.args.reps.now c.before.before.loop-test.true
-    (eqb-false (term_in T c.before.before.before.loop.i).kind variable_kind (sym c.before.is-variable.ensures ∙ not-true _ c.if1.true))
-    c.before.before.before.loop.invariant
+    gathered_skip (length T) (term_in T) c.before.before.before.before.before.before.before.args.reps.now c.before.before.loop-i-test.true
+    (eqb-false (term_in T c.before.before.before.loop-i.i).kind variable_kind (sym c.before.is_variable.ensures ∙ not-true _ c.if-not-is_variable.true))
+    c.before.before.before.loop-i.invariant
 
-put-class-requires : tie.Need-put-class-requires invariant-loop decreases-loop
+put-class-requires : tie.Need-put_class-requires invariant-loop decreases-loop
 put-class-requires c κs =
     let s = c.before.before.before.before.before.before.before.before.before.before in
-    (record { few = s.requires.0.few; left = rw c.before.before.class_of.ensures (s.requires.0.below c.before.before.before.before.before.before.loop.i c.before.before.before.before.before.loop-test.true); right = rw c.before.before.class_of.ensures (s.requires.0.below c.before.before.before.before.before.before.loop.i c.before.before.before.before.before.loop-test.true) }, (c.before.before.before.before.before.before.loop.invariant.long, room_kept (length s.args.terms.now) c.before.before.before.before.before.before.loop.invariant.marks s.requires.1.1))
+    (record { few = s.requires.0.few; left = rw c.before.before.class_of.ensures (s.requires.0.below c.before.before.before.before.before.before.loop-i.i c.before.before.before.before.before.loop-i-test.true); right = rw c.before.before.class_of.ensures (s.requires.0.below c.before.before.before.before.before.before.loop-i.i c.before.before.before.before.before.loop-i-test.true) }, (c.before.before.before.before.before.before.loop-i.invariant.long, room_kept (length s.args.terms.now) c.before.before.before.before.before.before.loop-i.invariant.marks s.requires.1.1))
 
-loop-again-2 : tie.Need-loop-preserved-2 invariant-loop decreases-loop
+loop-again-2 : tie.Need-loop-i-preserved invariant-loop decreases-loop
 loop-again-2 c =
     let T = c.before.before.before.before.before.before.before.before.before.before.before.before.before.before.before.args.terms.now in
-    gathered_more (length T) (term_in T) c.before.before.before.before.before.before.before.before.before.before.before.before.before.before.before.args.reps.now c.before.before.before.before.before.before.before.before.before.before.loop-test.true
-    (eqb-true (term_in T c.before.before.before.before.before.before.before.before.before.before.before.loop.i).kind variable_kind (sym c.before.before.before.before.before.before.before.before.before.is-variable.ensures ∙ not-false _ c.before.before.before.before.before.before.before.before.if1.false))
-    c.before.before.before.before.before.before.before.before.before.before.before.loop.invariant
-    (rw c.before.before.before.before.before.before.before.class_of.ensures at c.before.before.before.before.put-class.ensures)
+    gathered_more (length T) (term_in T) c.before.before.before.before.before.before.before.before.before.before.before.before.before.before.before.args.reps.now c.before.before.before.before.before.before.before.before.before.before.loop-i-test.true
+    (eqb-true (term_in T c.before.before.before.before.before.before.before.before.before.before.before.loop-i.i).kind variable_kind (sym c.before.before.before.before.before.before.before.before.before.is_variable.ensures ∙ not-false _ c.before.before.before.before.before.before.before.before.if-not-is_variable.false))
+    c.before.before.before.before.before.before.before.before.before.before.before.loop-i.invariant
+    (rw c.before.before.before.before.before.before.before.class_of.ensures at c.before.before.before.before.put_class.ensures)
 
 returns : tie.Need-returns invariant-loop decreases-loop
-returns c = let a = c.before.before.before.before.before.args in gathered_done (length a.terms.now) (term_in a.terms.now) a.reps.now c.loop-test.false c.before.loop.invariant
+returns c = let a = c.before.before.before.before.before.args in gathered_done (length a.terms.now) (term_in a.terms.now) a.reps.now c.loop-i-test.false c.before.loop-i.invariant
 
-pub put-variables-spec : {M : Type 1} → statement M
-put-variables-spec =
+pub put_variables_spec : {M : Type 1} → statement M
+put_variables_spec =
     tie.close
     (tie.spec
     invariant-loop
@@ -50,13 +50,13 @@ put-variables-spec =
     (λ c. let a = c.before.before.before.args in gathered_none (length a.terms.now) (term_in a.terms.now) a.reps.now a.table.now c.before.before.before.requires.1.0)
     (λ c κs. omega arith)
     (λ c. omega arith)
-    (λ c. omega (arith, c.before.before.loop-test.true))
+    (λ c. omega (arith, c.before.before.loop-i-test.true))
     loop-again
     (λ c κs. omega (arith, c.before.before.loop-test.true, c.before.before.before.before.before.before.before.requires.0.long))
     put-class-requires
     (λ c. omega arith)
-    (λ c. omega (arith, c.before.before.before.before.before.before.before.before.before.before.loop-test.true))
+    (λ c. omega (arith, c.before.before.before.before.before.before.before.before.before.before.loop-i-test.true))
     loop-again-2
-    (λ c. c.before.loop.invariant.long ∙ sym (zeros_long c.before.before.before.before.before.requires.1.0))
-    (λ c. c.before.loop.invariant.marks.long)
+    (λ c. c.before.loop-i.invariant.long ∙ sym (zeros_long c.before.before.before.before.before.requires.1.0))
+    (λ c. c.before.loop-i.invariant.marks.long)
     returns)

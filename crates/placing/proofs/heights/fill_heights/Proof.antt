@@ -11,21 +11,21 @@ use Rattle.placing.specs.Placed.{near_liftable, heights_none, heights_more, heig
 use Rattle.placing.proofs.heights.fill_heights.Statement.{statement}
 use Rattle.placing.proofs.heights.fill_heights.Tie as tie
 
-abbrev invariant-loop : tie.invariant-loop
+abbrev invariant-loop : tie.invariant-loop-t
 invariant-loop offs heights₀ t₀ t-end heights t = TermPlaces t offs heights
 
-abbrev decreases-loop : tie.decreases-loop
+abbrev decreases-loop : tie.decreases-loop-t
 decreases-loop offs heights₀ t₀ t-end heights t = length offs - t
 
 lifted-requires : tie.Need-lifted-requires invariant-loop decreases-loop
-lifted-requires c κs = rw (to_z-of_z w64 _ (sfits_of c.lifted-arg.given)) (near_liftable (c.before.before.before.before.requires.1.0.near c.before.before.loop.t c.before.loop-test.true))
+lifted-requires c κs = rw (to_z-of_z w64 _ (sfits_of c.lifted-arg-1.given)) (near_liftable (c.before.before.before.before.requires.1.0.near c.before.before.loop-t.t c.before.loop-t-test.true))
 
-loop-again : tie.Need-loop-preserved invariant-loop decreases-loop
+loop-again : tie.Need-loop-t-preserved invariant-loop decreases-loop
 loop-again c =
-    heights_more c.before.before.before.loop.invariant (omega (arith, c.before.before.before.before.before.requires.0, c.before.before.loop-test.true)) (rw (to_z-of_z w64 _ (sfits_of c.before.lifted-arg.given)) at c.lifted.ensures)
+    heights_more c.before.before.before.loop-t.invariant (omega (arith, c.before.before.before.before.before.requires.0, c.before.before.loop-t-test.true)) (rw (to_z-of_z w64 _ (sfits_of c.before.lifted-arg-1.given)) at c.lifted.ensures)
 
-pub fill-heights-spec : {M : Type 1} → statement M
-fill-heights-spec =
+pub fill_heights_spec : {M : Type 1} → statement M
+fill_heights_spec =
     tie.close
     (tie.spec
     invariant-loop
@@ -35,9 +35,9 @@ fill-heights-spec =
     (λ c. omega arith)
     lifted-requires
     (λ c. omega arith)
-    (λ c. omega (arith, c.before.before.before.loop.invariant.long, c.before.before.before.before.before.requires.0, c.before.before.loop-test.true))
+    (λ c. omega (arith, c.before.before.before.loop-t.invariant.long, c.before.before.before.before.before.requires.0, c.before.before.loop-t-test.true))
     (λ c. omega arith)
     (λ c. omega arith)
     loop-again
-    (λ c. c.before.loop.invariant.long ∙ sym c.before.before.before.requires.1.1)
-    (λ c. heights_done c.loop-test.false c.before.loop.invariant))
+    (λ c. c.before.loop-t.invariant.long ∙ sym c.before.before.before.requires.1.1)
+    (λ c. heights_done c.loop-t-test.false c.before.loop-t.invariant))

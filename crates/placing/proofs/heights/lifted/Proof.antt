@@ -13,10 +13,10 @@ returns : tie.Need-returns
 returns c =
     let s = c.before.before in
     let e = rw (to_z-of_z w64 s.args.z s.ranges.z) at c.before.sum.ensures in
-    rw (c.bits.ensures, to_z-of_z w64 c.before.sum.result (sfits_of c.before.sum.type-inv), e) (lifted_bits s.args.z s.requires)
+    rw (c.bits.ensures, to_z-of_z w64 c.before.sum.result (sfits_of c.before.sum.type_inv), e) (lifted_bits s.args.z s.requires)
 
-pub lifted-spec : {M : Type 1} → statement M
-lifted-spec =
+pub lifted_spec : {M : Type 1} → statement M
+lifted_spec =
     tie.close
     (tie.spec
     sum-requires

@@ -6,10 +6,10 @@ use Rattle.placing.proofs.reads.fill_read.Statement.{statement}
 use Rattle.placing.proofs.reads.fill_read.Tie as tie
 
 returns : tie.Need-returns
-returns c = let p = c.before.before.before.before.before.requires in reads_more p.1 (omega (arith, p.0.0.classes.few, p.0.1)) (read_place c.before.read-class.ensures c.read-height.ensures)
+returns c = let p = c.before.before.before.before.before.requires in reads_more p.1 (omega (arith, p.0.0.classes.few, p.0.1)) (read_place c.before.read_class.ensures c.read_height.ensures)
 
-pub fill-read-spec : {M : Type 1} → statement M
-fill-read-spec =
+pub fill_read_spec : {M : Type 1} → statement M
+fill_read_spec =
     tie.close
     (tie.spec
     (λ c κs. let p = c.before.before.before.requires.0 in ((p.1, p.0.classes.few), inner_classed p.0 p.1))

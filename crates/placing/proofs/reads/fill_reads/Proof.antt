@@ -9,14 +9,14 @@ use Rattle.placing.specs.Placed.{reads_none, reads_done}
 use Rattle.placing.proofs.reads.fill_reads.Statement.{statement}
 use Rattle.placing.proofs.reads.fill_reads.Tie as tie
 
-abbrev invariant-loop : tie.invariant-loop
+abbrev invariant-loop : tie.invariant-loop-t
 invariant-loop terms reps offs reads₀ read-heights₀ t₀ t-end reads read-heights t = ReadPlaces (length terms) (term_in terms) reps offs t reads read-heights
 
-abbrev decreases-loop : tie.decreases-loop
+abbrev decreases-loop : tie.decreases-loop-t
 decreases-loop terms reps offs reads₀ read-heights₀ t₀ t-end reads read-heights t = length terms - t
 
-pub fill-reads-spec : {M : Type 1} → statement M
-fill-reads-spec =
+pub fill_reads_spec : {M : Type 1} → statement M
+fill_reads_spec =
     tie.close
     (tie.spec
     invariant-loop
@@ -25,7 +25,7 @@ fill-reads-spec =
     (λ c κs. ((c.before.before.before.before.before.before.before.requires.0, c.before.before.loop-test.true), c.before.before.before.loop.invariant))
     (λ c. omega arith)
     (λ c. omega arith)
-    (λ c. c.before.before.before.before.fill-read.ensures)
-    (λ c. c.before.loop.invariant.classes_long ∙ sym c.before.before.before.before.before.requires.1.0)
-    (λ c. c.before.loop.invariant.heights_long ∙ sym c.before.before.before.before.before.requires.1.1)
-    (λ c. reads_done c.loop-test.false c.before.loop.invariant))
+    (λ c. c.before.before.before.before.fill_read.ensures)
+    (λ c. c.before.loop-t.invariant.classes_long ∙ sym c.before.before.before.before.before.requires.1.0)
+    (λ c. c.before.loop-t.invariant.heights_long ∙ sym c.before.before.before.before.before.requires.1.1)
+    (λ c. reads_done c.loop-t-test.false c.before.loop-t.invariant))

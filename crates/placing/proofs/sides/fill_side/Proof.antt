@@ -11,8 +11,8 @@ returns c =
     sides_more p.1 (omega (arith, p.0.0.few, p.0.1))
     (side_place c.before.before.before.left_class.ensures c.before.before.left_height.ensures c.before.right_class.ensures c.right_height.ensures)
 
-pub fill-side-spec : {M : Type 1} → statement M
-fill-side-spec =
+pub fill_side_spec : {M : Type 1} → statement M
+fill_side_spec =
     tie.close
     (tie.spec
     (λ c κs. let p = c.before.before.before.before.before.requires.0 in (p.1, (p.0.classes.few, left_classed p.0 p.1)))

@@ -9,14 +9,14 @@ use Rattle.placing.specs.Placed.{sides_none, sides_done}
 use Rattle.placing.proofs.sides.fill_sides.Statement.{statement}
 use Rattle.placing.proofs.sides.fill_sides.Tie as tie
 
-abbrev invariant-loop : tie.invariant-loop
+abbrev invariant-loop : tie.invariant-loop-k
 invariant-loop n propositions reps offs left-classes₀ left-heights₀ right-classes₀ right-heights₀ k₀ k-end left-classes left-heights right-classes right-heights k = SidePlaces n (proposition_in propositions) reps offs k left-classes left-heights right-classes right-heights
 
-abbrev decreases-loop : tie.decreases-loop
+abbrev decreases-loop : tie.decreases-loop-k
 decreases-loop n propositions reps offs left-classes₀ left-heights₀ right-classes₀ right-heights₀ k₀ k-end left-classes left-heights right-classes right-heights k = length propositions - k
 
-pub fill-sides-spec : {M : Type 1} → statement M
-fill-sides-spec =
+pub fill_sides_spec : {M : Type 1} → statement M
+fill_sides_spec =
     tie.close
     (tie.spec
     invariant-loop
@@ -25,9 +25,9 @@ fill-sides-spec =
     (λ c κs. ((c.before.before.before.before.before.before.before.before.before.before.before.requires.0, c.before.before.before.before.loop-test.true), c.before.before.before.before.before.loop.invariant))
     (λ c. omega arith)
     (λ c. omega arith)
-    (λ c. c.before.before.before.before.before.before.before.before.fill-side.ensures)
-    (λ c. c.before.loop.invariant.left_long ∙ sym c.before.before.before.before.before.before.before.requires.1.0)
-    (λ c. c.before.loop.invariant.left_heights_long ∙ sym c.before.before.before.before.before.before.before.requires.1.1.0)
-    (λ c. c.before.loop.invariant.right_long ∙ sym c.before.before.before.before.before.before.before.requires.1.1.1.0)
-    (λ c. c.before.loop.invariant.right_heights_long ∙ sym c.before.before.before.before.before.before.before.requires.1.1.1.1)
-    (λ c. sides_done c.loop-test.false c.before.loop.invariant))
+    (λ c. c.before.before.before.before.before.before.before.before.fill_side.ensures)
+    (λ c. c.before.loop-k.invariant.left_long ∙ sym c.before.before.before.before.before.before.before.requires.1.0)
+    (λ c. c.before.loop-k.invariant.left_heights_long ∙ sym c.before.before.before.before.before.before.before.requires.1.1.0)
+    (λ c. c.before.loop-k.invariant.right_long ∙ sym c.before.before.before.before.before.before.before.requires.1.1.1.0)
+    (λ c. c.before.loop-k.invariant.right_heights_long ∙ sym c.before.before.before.before.before.before.before.requires.1.1.1.1)
+    (λ c. sides_done c.loop-k-test.false c.before.loop-k.invariant))

@@ -6,22 +6,22 @@ use Rattle.tables.specs.Records.{PropositionRecord}
 use Rattle.placing.proofs.sides.left_class.Statement.{statement}
 use Rattle.placing.proofs.sides.left_class.Tie as tie
 
-returns : tie.Need-returns
-returns c = record { left_class = λ d. absurd (c.before.if1.true (ap (λ (r : PropositionRecord). r.kind) c.before.before.before.proposition-at.ensures ∙ d)); other = λ _. c.no-class.ensures }
+returns : tie.Need-returns-then-r-ne-DISEQUALITY
+returns c = record { left_class = λ d. absurd (c.before.if-r-ne-DISEQUALITY.true (ap (λ (r : PropositionRecord). r.kind) c.before.before.before.proposition_at-r.ensures ∙ d)); other = λ _. c.no_class.ensures }
 
-mul-result : tie.Need-overflow-mul-result
-mul-result c = let s = c.before.before.before.before.before in let e = c.index.ensures ∙ ap (λ (r : PropositionRecord). r.left) c.before.before.before.proposition-at.ensures in omega (arith, s.requires.1.1)
+mul-result : tie.Need-offset_bounds-reps-left
+mul-result c = let s = c.before.before.before.before.before in let e = c.index-left.ensures ∙ ap (λ (r : PropositionRecord). r.left) c.before.before.before.proposition_at-r.ensures in omega (arith, s.requires.1.1)
 
-shared-slice-read-result : tie.Need-shared-slice-read-result
-shared-slice-read-result c = let s = c.before.before.before.before.before.before in let e = c.before.index.ensures ∙ ap (λ (r : PropositionRecord). r.left) c.before.before.before.before.proposition-at.ensures in omega (arith, s.requires.1.1)
+shared-slice-read-result : tie.Need-bounds-reps-left
+shared-slice-read-result c = let s = c.before.before.before.before.before.before in let e = c.before.index-left.ensures ∙ ap (λ (r : PropositionRecord). r.left) c.before.before.before.before.proposition_at-r.ensures in omega (arith, s.requires.1.1)
 
-returns-2 : tie.Need-returns-2
+returns-2 : tie.Need-returns
 returns-2 c =
-    let e = c.before.index.ensures ∙ ap (λ (r : PropositionRecord). r.left) c.before.before.before.before.proposition-at.ensures in
-    record { left_class = λ d. rw e; other = λ m. absurd (m (sym (ap (λ (r : PropositionRecord). r.kind) c.before.before.before.before.proposition-at.ensures) ∙ c.before.before.if1.false)) }
+    let e = c.before.index-left.ensures ∙ ap (λ (r : PropositionRecord). r.left) c.before.before.before.before.proposition_at-r.ensures in
+    record { left_class = λ d. rw e; other = λ m. absurd (m (sym (ap (λ (r : PropositionRecord). r.kind) c.before.before.before.before.proposition_at-r.ensures) ∙ c.before.before.if-r-ne-DISEQUALITY.false)) }
 
-pub left-class-spec : {M : Type 1} → statement M
-left-class-spec =
+pub left_class_spec : {M : Type 1} → statement M
+left_class_spec =
     tie.close
     (tie.spec
     (λ c κs. search rules)

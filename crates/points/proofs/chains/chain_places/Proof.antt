@@ -9,9 +9,9 @@ chain-requires : tie.Need-chain-requires
 chain-requires c κs = let p = c.before.before.before.before.before.before.before.before.requires in class_keys p.0 p.1.1.0 p.1.0
 
 returns : tie.Need-returns
-returns c = record { column = c.before.before.before.before.before.before.before.before.before.before.before.before.before.before.before.before.before.before.before.before.requires.0; by_class = chains_sized c.before.before.before.before.before.before.before.before.before.before.before.before.before.before.before.before.before.before.before.before.requires.1.0 c.before.before.before.before.before.before.before.before.before.before.before.chain.ensures; by_slot = c.before.before.before.before.chain-slots.ensures }
+returns c = record { column = c.before.before.before.before.before.before.before.before.before.before.before.before.before.before.before.before.before.before.before.before.requires.0; by_class = chains_sized c.before.before.before.before.before.before.before.before.before.before.before.before.before.before.before.before.before.before.before.before.requires.1.0 c.before.before.before.before.before.before.before.before.before.before.before.chain.ensures; by_slot = c.before.before.before.before.chain_slots.ensures }
 
-pub chain-places-spec : {M : Type 1} → statement M
-chain-places-spec =
+pub chain_places_spec : {M : Type 1} → statement M
+chain_places_spec =
     tie.close
     (tie.spec chain-requires (λ c κs. search rules) (λ c. search rules) (λ c. search rules) (λ c. search rules) (λ c. search rules) returns)

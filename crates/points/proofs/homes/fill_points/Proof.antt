@@ -5,17 +5,17 @@ use Rattle.points.specs.Homes.{point_at, points_filled}
 use Rattle.points.proofs.homes.fill_points.Statement.{statement}
 use Rattle.points.proofs.homes.fill_points.Tie as tie
 
-abbrev invariant-loop : tie.invariant-loop
+abbrev invariant-loop : tie.invariant-loop-t
 invariant-loop n classes homes points₀ t₀ points t = Filled (point_at n classes homes) 0 t (length points₀) points
 
-abbrev decreases-loop : tie.decreases-loop
+abbrev decreases-loop : tie.decreases-loop-t
 decreases-loop n classes homes points₀ t₀ points t = n - t
 
-loop-again : tie.Need-loop-preserved invariant-loop decreases-loop
-loop-again c = filled_more _ 0 c.before.before.before.before.loop.invariant (omega (arith, c.before.before.before.loop-test.true, c.before.before.before.before.before.before.before.before.requires.1.1.1)) c.point.ensures
+loop-again : tie.Need-loop-t-preserved invariant-loop decreases-loop
+loop-again c = filled_more _ 0 c.before.before.before.before.loop-t.invariant (omega (arith, c.before.before.before.loop-t-test.true, c.before.before.before.before.before.before.before.before.requires.1.1.1)) c.point.ensures
 
-pub fill-points-spec : {M : Type 1} → statement M
-fill-points-spec =
+pub fill_points_spec : {M : Type 1} → statement M
+fill_points_spec =
     tie.close
     (tie.spec
     invariant-loop
@@ -27,9 +27,9 @@ fill-points-spec =
     (λ c. omega arith)
     (λ c κs. c.before.before.before.before.before.before.before.requires.0)
     (λ c. omega arith)
-    (λ c. omega (arith, c.before.before.before.before.loop.invariant.long, c.before.before.before.loop-test.true, c.before.before.before.before.before.before.before.before.requires.1.1.1))
+    (λ c. omega (arith, c.before.before.before.before.loop-t.invariant.long, c.before.before.before.loop-t-test.true, c.before.before.before.before.before.before.before.before.requires.1.1.1))
     (λ c. omega arith)
     (λ c. omega arith)
     loop-again
-    (λ c. c.before.loop.invariant.long)
-    (λ c. points_filled c.before.before.before.before.before.requires.1.1.1 c.loop-test.false c.before.loop.invariant))
+    (λ c. c.before.loop-t.invariant.long)
+    (λ c. points_filled c.before.before.before.before.before.requires.1.1.1 c.loop-t-test.false c.before.loop-t.invariant))

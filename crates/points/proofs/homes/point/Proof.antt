@@ -4,16 +4,16 @@ use Rattle.points.specs.Homes.{point_of}
 use Rattle.points.proofs.homes.point.Statement.{statement}
 use Rattle.points.proofs.homes.point.Tie as tie
 
-returns : tie.Need-returns
+returns : tie.Need-returns-then-index-t
 unfolding point_of
-returns c = rw (eq-eqb _ _ (sym c.before.before.index.ensures ∙ c.if1.true))
+returns c = rw (eq-eqb _ _ (sym c.before.before.index.ensures ∙ c.if-index-t.true))
 
-returns-2 : tie.Need-returns-2
+returns-2 : tie.Need-returns
 unfolding point_of
-returns-2 c = rw (ne_eqb _ _ (λ e. c.before.if1.false (c.before.before.before.index.ensures ∙ e))) c.narrow.ensures
+returns-2 c = rw (ne_eqb _ _ (λ e. c.before.if-index-t.false (c.before.before.before.index.ensures ∙ e))) c.narrow.ensures
 
-pub point-spec : {M : Type 1} → statement M
-point-spec =
+pub point_spec : {M : Type 1} → statement M
+point_spec =
     tie.close
     (tie.spec
     (λ c κs. search rules)

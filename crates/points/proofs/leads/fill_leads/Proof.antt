@@ -4,19 +4,19 @@ use Rattle.points.specs.Leads.{Leading, leading_start, leading_done}
 use Rattle.points.proofs.leads.fill_leads.Statement.{statement}
 use Rattle.points.proofs.leads.fill_leads.Tie as tie
 
-abbrev invariant-loop : tie.invariant-loop
+abbrev invariant-loop : tie.invariant-loop-t
 invariant-loop n homes reads read-heights leads₀ seen₀ r₀ t₀ leads seen r t = Leading n t (length leads₀) homes reads read-heights leads r
 
-abbrev decreases-loop : tie.decreases-loop
+abbrev decreases-loop : tie.decreases-loop-t
 decreases-loop n homes reads read-heights leads₀ seen₀ r₀ t₀ leads seen r t = n - t
 
-add-lead-requires : tie.Need-add-lead-requires invariant-loop decreases-loop
+add-lead-requires : tie.Need-add_lead-r-requires invariant-loop decreases-loop
 add-lead-requires c κs = let p = c.before.before.before.before.before.before.before.before.requires in
-    let i = c.before.before.before.loop.invariant in
-    ((p.0, (p.1.0, (omega (arith, p.1.1, i.long), c.before.before.loop-test.true))), rw i.long i)
+    let i = c.before.before.before.loop-t.invariant in
+    ((p.0, (p.1.0, (omega (arith, p.1.1, i.long), c.before.before.loop-t-test.true))), rw i.long i)
 
-pub fill-leads-spec : {M : Type 1} → statement M
-fill-leads-spec =
+pub fill_leads_spec : {M : Type 1} → statement M
+fill_leads_spec =
     tie.close
     (tie.spec
     invariant-loop
@@ -25,6 +25,6 @@ fill-leads-spec =
     add-lead-requires
     (λ c. omega arith)
     (λ c. omega arith)
-    (λ c. rw c.before.before.before.before.before.before.loop.invariant.long at c.before.before.add-lead.ensures)
-    (λ c. c.before.loop.invariant.long)
-    (λ c. leading_done c.before.before.before.before.before.before.requires.1.1 c.loop-test.false c.before.loop.invariant))
+    (λ c. rw c.before.before.before.before.before.before.loop-t.invariant.long at c.before.before.add_lead-r.ensures)
+    (λ c. c.before.loop-t.invariant.long)
+    (λ c. leading_done c.before.before.before.before.before.before.requires.1.1 c.loop-t-test.false c.before.loop-t.invariant))

@@ -3,19 +3,19 @@ use Rattle.std.proofs.Common.{◌-◌, ◌≤◌, arith, rules}
 use Rattle.points.proofs.leads.find_lead.Statement.{statement}
 use Rattle.points.proofs.leads.find_lead.Tie as tie
 
-abbrev invariant-loop : tie.invariant-loop
+abbrev invariant-loop : tie.invariant-loop-p
 invariant-loop n t r homes reads read-heights leads seen y start p₀ p = p ≤ 8
 
-abbrev decreases-loop : tie.decreases-loop
+abbrev decreases-loop : tie.decreases-loop-p
 decreases-loop n t r homes reads read-heights leads seen y start p₀ p = 8 - p
 
-slot-requires : tie.Need-slot-requires invariant-loop decreases-loop
+slot-requires : tie.Need-slot-start-requires invariant-loop decreases-loop
 slot-requires c κs = let s = c.before.before.before.before.before.before in
     let C = s.requires.column in
     (omega (arith, C.below s.args.t.0 s.requires.inside, C.few), omega (arith, C.low s.args.t.0 s.requires.inside))
 
-pub find-lead-spec : {M : Type 1} → statement M
-find-lead-spec =
+pub find_lead_spec : {M : Type 1} → statement M
+find_lead_spec =
     tie.close
     (tie.spec
     invariant-loop
@@ -26,7 +26,7 @@ find-lead-spec =
     (λ c. omega (arith, c.before.before.before.before.before.before.requires.column.heights_long, c.before.before.before.before.before.before.requires.inside))
     slot-requires
     (λ c. omega arith)
-    (λ c. omega (arith, c.before.before.slot.ensures.1))
+    (λ c. omega (arith, c.before.before.slot-start.ensures.1))
     (λ c κs. search rules)
     (λ c h. absurd (omega arith))
     (λ c. omega arith)

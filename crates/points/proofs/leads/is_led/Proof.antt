@@ -5,15 +5,15 @@ use Rattle.points.specs.Leads.{led_by}
 use Rattle.points.proofs.leads.is_led.Statement.{statement}
 use Rattle.points.proofs.leads.is_led.Tie as tie
 
-reads-same-requires : tie.Need-reads-same-requires
+reads-same-requires : tie.Need-reads_same-requires
 reads-same-requires c κs = let p = c.before.before.before.before.before.before.requires in
-    (p.column, (p.homes_long, (rw c.linked.ensures (p.below c.before.before.before.before.before.before.args.k c.before.if1.false), p.inside)))
+    (p.column, (p.homes_long, (rw c.linked.ensures (p.below c.before.before.before.before.before.before.args.k c.before.if-r-k.false), p.inside)))
 
-returns-2 : tie.Need-returns-2
-returns-2 c = λ e. led_by c.before.before.if1.false (rw c.before.linked.ensures at (c.reads_same.ensures e))
+returns-2 : tie.Need-returns
+returns-2 c = λ e. led_by c.before.before.if-r-k.false (rw c.before.linked.ensures at (c.reads_same.ensures e))
 
-pub is-led-spec : {M : Type 1} → statement M
-is-led-spec =
+pub is_led_spec : {M : Type 1} → statement M
+is_led_spec =
     tie.close
     (tie.spec
     (λ c e. false_true refl e)

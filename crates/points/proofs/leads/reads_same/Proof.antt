@@ -7,8 +7,8 @@ use Rattle.points.proofs.leads.reads_same.Tie as tie
 returns : tie.Need-returns
 returns c = λ e. same_read _ _ _ _ _ (rw c.before.before.is_at.ensures at e)
 
-pub reads-same-spec : {M : Type 1} → statement M
-reads-same-spec =
+pub reads_same_spec : {M : Type 1} → statement M
+reads_same_spec =
     tie.close
     (tie.spec
     (λ c. search rules)

@@ -3,14 +3,14 @@ use Rattle.std.proofs.Common.{◌-◌, ◌≤◌, arith, rules}
 use Rattle.points.proofs.places.count_sizes.Statement.{statement}
 use Rattle.points.proofs.places.count_sizes.Tie as tie
 
-abbrev invariant-loop : tie.invariant-loop
+abbrev invariant-loop : tie.invariant-loop-t
 invariant-loop n classes sizes₀ t₀ sizes t = t ≤ n
 
-abbrev decreases-loop : tie.decreases-loop
+abbrev decreases-loop : tie.decreases-loop-t
 decreases-loop n classes sizes₀ t₀ sizes t = n - t
 
-pub count-sizes-spec : {M : Type 1} → statement M
-count-sizes-spec =
+pub count_sizes_spec : {M : Type 1} → statement M
+count_sizes_spec =
     tie.close
     (tie.spec
     invariant-loop

@@ -8,29 +8,29 @@ use Rattle.questions.specs.Sides.{slot_of_side}
 use Rattle.questions.proofs.sides.side_slots.Statement.{statement}
 use Rattle.questions.proofs.sides.side_slots.Tie as tie
 
-abbrev invariant-loop : tie.invariant-loop
+abbrev invariant-loop : tie.invariant-loop-k
 invariant-loop m left-classes left-heights right-heights slotted₀ k₀ slotted k = (k ≤ m) × Filled (slot_of_side left-classes left-heights right-heights) 0 k (length slotted₀) slotted
 
-abbrev decreases-loop : tie.decreases-loop
+abbrev decreases-loop : tie.decreases-loop-k
 decreases-loop m left-classes left-heights right-heights slotted₀ k₀ slotted k = m - k
 
-slice-write-slotted : tie.Need-slice-write-slotted invariant-loop decreases-loop
-slice-write-slotted c = omega (arith, c.before.before.before.before.before.before.before.requires.1, c.before.loop-test.true, c.before.before.loop.invariant.1.long)
+slice-write-slotted : tie.Need-bounds-slotted-k invariant-loop decreases-loop
+slice-write-slotted c = omega (arith, c.before.before.before.before.before.before.before.requires.1, c.before.loop-k-test.true, c.before.before.loop-k.invariant.1.long)
 
-loop-again : tie.Need-loop-preserved invariant-loop decreases-loop
-loop-again c = (omega (arith, c.before.loop-test.true), filled_more _ 0 c.before.before.loop.invariant.1 (omega (arith, c.before.loop-test.true, c.before.before.before.before.before.before.before.requires.1)) c.side-slot.ensures)
+loop-again : tie.Need-loop-k-preserved invariant-loop decreases-loop
+loop-again c = (omega (arith, c.before.loop-k-test.true), filled_more _ 0 c.before.before.loop-k.invariant.1 (omega (arith, c.before.loop-k-test.true, c.before.before.before.before.before.before.before.requires.1)) c.side_slot.ensures)
 
-same_length : tie.Need-same-length invariant-loop decreases-loop
-same_length c = c.before.loop.invariant.1.long
+same_length : tie.Need-shape_of-slotted invariant-loop decreases-loop
+same_length c = c.before.loop-k.invariant.1.long
 
-side-slot-requires : tie.Need-side-slot-requires invariant-loop decreases-loop
-side-slot-requires c κs = (c.before.before.before.before.before.before.requires.0, c.loop-test.true)
+side-slot-requires : tie.Need-side_slot-requires invariant-loop decreases-loop
+side-slot-requires c κs = (c.before.before.before.before.before.before.requires.0, c.loop-k-test.true)
 
 returns : tie.Need-returns invariant-loop decreases-loop
-returns c = let i = c.before.loop.invariant in record { long = i.1.long; done = λ j h. i.1.done j (omega (arith, c.loop-test.false)) }
+returns c = let i = c.before.loop-k.invariant in record { long = i.1.long; done = λ j h. i.1.done j (omega (arith, c.loop-k-test.false)) }
 
-pub side-slots-spec : {M : Type 1} → statement M
-side-slots-spec =
+pub side_slots_spec : {M : Type 1} → statement M
+side_slots_spec =
     tie.close
     (tie.spec
     invariant-loop

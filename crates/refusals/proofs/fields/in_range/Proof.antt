@@ -9,5 +9,5 @@ use Rattle.refusals.proofs.fields.in_range.Tie as tie
 returns : tie.Need-returns
 returns c = rw (to_z-of_z w64 c.args.z c.ranges.z) (range_tests c.args.z)
 
-pub in-range-spec : {M : Type 1} → statement M
-in-range-spec = tie.close (tie.spec (λ c. search rules) returns)
+pub in_range_spec : {M : Type 1} → statement M
+in_range_spec = tie.close (tie.spec (λ c. search rules) returns)

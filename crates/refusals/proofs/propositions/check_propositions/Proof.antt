@@ -13,35 +13,35 @@ use Rattle.refusals.specs.FirstFault.{judged, Clear, starts, goes_on, stops, end
 use Rattle.refusals.proofs.propositions.check_propositions.Statement.{statement}
 use Rattle.refusals.proofs.propositions.check_propositions.Tie as tie
 
-abbrev invariant-loop : tie.invariant-loop
+abbrev invariant-loop : tie.invariant-loop-i
 invariant-loop n propositions i₀ i-end i = Clear (λ k. proposition_fault n (proposition_in propositions k)) (length propositions) i
 
-abbrev decreases-loop : tie.decreases-loop
+abbrev decreases-loop : tie.decreases-loop-i
 decreases-loop n propositions i₀ i-end i = length propositions - i
 
 abbrev faults : tie.Start invariant-loop decreases-loop → ℕ → Option Refusal
 faults s = λ k. proposition_fault s.args.n (proposition_in s.args.propositions.now k)
 
-found : (c : tie.After-judge-proposition invariant-loop decreases-loop) → let l = c.before.before.before in c.judge-proposition.result ≡ judged l.loop.i (faults l.before l.loop.i)
-found c = rw c.before.proposition-at.ensures at c.judge-proposition.ensures
+found : (c : tie.After-judge_proposition-found invariant-loop decreases-loop) → let l = c.before.before.before in c.judge-proposition.result ≡ judged l.loop.i (faults l.before l.loop.i)
+found c = rw c.before.proposition_at.ensures at c.judge_proposition-found.ensures
 
-returns : tie.Need-returns invariant-loop decreases-loop
+returns : tie.Need-returns-in_default invariant-loop decreases-loop
 unfolding propositions_fault
 returns c =
     let l = c.before.before.before.before.before in
-    stops (faults l.before) (omega arith) l.loop.invariant (found c.before.before) c.enum-told2.given.1
+    stops (faults l.before) (omega arith) l.loop-i.invariant (found c.before.before) c.enum_told-in_default-1.given.1
 
-loop-again : tie.Need-loop-preserved invariant-loop decreases-loop
+loop-again : tie.Need-loop-i-preserved invariant-loop decreases-loop
 loop-again c =
     let l = c.before.before.before.before.before in
-    goes_on (faults l.before) (omega arith) l.loop.invariant (found c.before.before) c.enum_told.given.1
+    goes_on (faults l.before) (omega arith) l.loop-i.invariant (found c.before.before) c.enum_told-1.given.1
 
-returns-2 : tie.Need-returns-2 invariant-loop decreases-loop
+returns-2 : tie.Need-returns invariant-loop decreases-loop
 unfolding propositions_fault
-returns-2 c = let l = c.before in ends (faults l.before) (omega arith) l.loop.invariant
+returns-2 c = let l = c.before in ends (faults l.before) (omega arith) l.loop-i.invariant
 
-pub check-propositions-spec : {M : Type 1} → statement M
-check-propositions-spec =
+pub check_propositions_spec : {M : Type 1} → statement M
+check_propositions_spec =
     tie.close
     (tie.spec
     invariant-loop

@@ -7,17 +7,17 @@ use Rattle.refusals.specs.Fields.{is_proposition_lem}
 use Rattle.refusals.proofs.propositions.is_proposition.Statement.{statement}
 use Rattle.refusals.proofs.propositions.is_proposition.Tie as tie
 
-returns : tie.Need-returns
+returns : tie.Need-returns-then-r
 returns c =
     let t = c.before.before in
     let r = t.before.before.before.args.r in
-    rw (c.in_range_lem.ensures, to_z-of_z w64 r.offset (sfits_of c.before.struct_told.given.1.1.0.1)) (is_proposition_lem r true t.if1.true)
+    rw (c.in_range_lem.ensures, to_z-of_z w64 r.offset (sfits_of c.before.struct_told-1.given.1.1.0.1)) (is_proposition_lem r true t.if-r.true)
 
-returns-2 : tie.Need-returns-2
+returns-2 : tie.Need-returns
 returns-2 c =
     let t = c.before.before.before in
     let r = t.before.before.before.args.r in
-    rw (c.is_same.ensures, to_z-of_z w64 r.offset (sfits_of c.before.struct-told2.given.1.1.0.1)) (is_proposition_lem r false t.if1.false)
+    rw (c.is_same.ensures, to_z-of_z w64 r.offset (sfits_of c.before.struct_told-2-1.given.1.1.0.1)) (is_proposition_lem r false t.if-r.false)
 
-pub is-proposition-spec : {M : Type 1} → statement M
-is-proposition-spec = tie.close (tie.spec (λ c κs. search rules) returns (λ c κs. search rules) returns-2)
+pub is_proposition_spec : {M : Type 1} → statement M
+is_proposition_spec = tie.close (tie.spec (λ c κs. search rules) returns (λ c κs. search rules) returns-2)

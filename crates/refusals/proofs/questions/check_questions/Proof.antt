@@ -13,35 +13,35 @@ use Rattle.refusals.specs.FirstFault.{judged, Clear, starts, goes_on, stops, end
 use Rattle.refusals.proofs.questions.check_questions.Statement.{statement}
 use Rattle.refusals.proofs.questions.check_questions.Tie as tie
 
-abbrev invariant-loop : tie.invariant-loop
+abbrev invariant-loop : tie.invariant-loop-i
 invariant-loop n questions i₀ i-end i = Clear (λ k. question_fault n (asked (question_in questions k))) (length questions) i
 
-abbrev decreases-loop : tie.decreases-loop
+abbrev decreases-loop : tie.decreases-loop-i
 decreases-loop n questions i₀ i-end i = length questions - i
 
 abbrev faults : tie.Start invariant-loop decreases-loop → ℕ → Option Refusal
 faults s = λ k. question_fault s.args.n (asked (question_in s.args.questions.now k))
 
-found : (c : tie.After-judge-question invariant-loop decreases-loop) → let l = c.before.before.before in c.judge-question.result ≡ judged l.loop.i (faults l.before l.loop.i)
-found c = rw c.before.question-at.ensures at c.judge-question.ensures
+found : (c : tie.After-judge_question-found invariant-loop decreases-loop) → let l = c.before.before.before in c.judge-question.result ≡ judged l.loop.i (faults l.before l.loop.i)
+found c = rw c.before.question_at.ensures at c.judge_question-found.ensures
 
-returns : tie.Need-returns invariant-loop decreases-loop
+returns : tie.Need-returns-in_default invariant-loop decreases-loop
 unfolding questions_fault
 returns c =
     let l = c.before.before.before.before.before in
-    stops (faults l.before) (omega arith) l.loop.invariant (found c.before.before) c.enum-told2.given.1
+    stops (faults l.before) (omega arith) l.loop-i.invariant (found c.before.before) c.enum_told-in_default-1.given.1
 
-loop-again : tie.Need-loop-preserved invariant-loop decreases-loop
+loop-again : tie.Need-loop-i-preserved invariant-loop decreases-loop
 loop-again c =
     let l = c.before.before.before.before.before in
-    goes_on (faults l.before) (omega arith) l.loop.invariant (found c.before.before) c.enum_told.given.1
+    goes_on (faults l.before) (omega arith) l.loop-i.invariant (found c.before.before) c.enum_told-1.given.1
 
-returns-2 : tie.Need-returns-2 invariant-loop decreases-loop
+returns-2 : tie.Need-returns invariant-loop decreases-loop
 unfolding questions_fault
-returns-2 c = let l = c.before in ends (faults l.before) (omega arith) l.loop.invariant
+returns-2 c = let l = c.before in ends (faults l.before) (omega arith) l.loop-i.invariant
 
-pub check-questions-spec : {M : Type 1} → statement M
-check-questions-spec =
+pub check_questions_spec : {M : Type 1} → statement M
+check_questions_spec =
     tie.close
     (tie.spec
     invariant-loop

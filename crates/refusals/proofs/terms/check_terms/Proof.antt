@@ -36,40 +36,40 @@ parts : (s : tie.Start) → acceptance (first_fault (λ k. or_else (own s k) (re
 parts s = ap acceptance (term_faults (term_in s.args.terms.now) (count s))
 
 -- where the first search does not decide, its fault comes after that place
-later : (c : tie.At-match-branch) → let s = c.before.before.before in Later (own s) (again s) AtomListedTwice (count s) (place s)
+later : (c : tie.Joined-found) → let s = c.before.before.before in Later (own s) (again s) AtomListedTwice (count s) (place s)
 later c =
     let s = c.before.before.before in
-    let e = c.before.first-own-fault.ensures in
+    let e = c.before.first_own_fault-found.ensures in
     ⊎_elim
-    (λ w. later_fault (own s) (again s) AtomListedTwice (count s) e w.1.given.1 (rw c.before.before.first-repeat.ensures at w.4.left))
+    (λ w. later_fault (own s) (again s) AtomListedTwice (count s) e w.1.given.1 (rw c.before.before.first_repeat-repeat.ensures at w.4.left))
     (λ w. later_clear (own s) (again s) AtomListedTwice (count s) e w.1.given.1)
-    c.match.branch
+    c.match-found.branch
 
-returns : tie.Need-returns
+returns : tie.Need-returns-then-fault-repeat
 returns c =
     let f = c.before.before.before in
     let m = f.before.before in
     let s = m.before.before in
-    let e = f.found.given.1 in
+    let e = f.found-1.given.1 in
     sym e
-    ∙ takes_first (own s) (again s) AtomListedTwice (count s) m.first-own-fault.ensures e (rw m.before.first-repeat.ensures at c.if1.true)
+    ∙ takes_first (own s) (again s) AtomListedTwice (count s) m.first_own_fault-found.ensures e (rw m.before.first_repeat-repeat.ensures at c.if-fault-repeat.true)
     ∙ parts s
 
-returns-2 : tie.Need-returns-2
+returns-2 : tie.Need-returns-then-repeat-terms
 returns-2 c =
     let m = c.before.before.before in
     let s = m.before.before in
-    let e = m.before.first-repeat.ensures in
+    let e = m.before.first_repeat-repeat.ensures in
     (rw e at c.refuse.ensures)
-    ∙ takes_second (own s) (again s) AtomListedTwice (count s) (later c.before.before) (rw e at c.before.if2.true)
+    ∙ takes_second (own s) (again s) AtomListedTwice (count s) (later c.before.before) (rw e at c.before.if-repeat-terms.true)
     ∙ parts s
 
-returns-3 : tie.Need-returns-3
+returns-3 : tie.Need-returns
 returns-3 c =
     let m = c.before.before in
     let s = m.before.before in
-    takes_none (own s) (again s) AtomListedTwice (count s) (later c.before) (rw m.before.first-repeat.ensures at c.if2.false) ∙ parts s
+    takes_none (own s) (again s) AtomListedTwice (count s) (later c.before) (rw m.before.first_repeat-repeat.ensures at c.if-repeat-terms.false) ∙ parts s
 
-pub check-terms-spec : {M : Type 1} → statement M
-check-terms-spec =
+pub check_terms_spec : {M : Type 1} → statement M
+check_terms_spec =
     tie.close (tie.spec (λ c κs. search rules) (λ c κs. search rules) (λ c. search rules) returns (λ c. search rules) (λ c κs. search rules) returns-2 returns-3)

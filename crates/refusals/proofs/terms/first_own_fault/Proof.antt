@@ -12,33 +12,33 @@ use Rattle.refusals.specs.Terms.{own_fault_at}
 use Rattle.refusals.proofs.terms.first_own_fault.Statement.{statement}
 use Rattle.refusals.proofs.terms.first_own_fault.Tie as tie
 
-abbrev invariant-loop : tie.invariant-loop
+abbrev invariant-loop : tie.invariant-loop-i
 invariant-loop terms i₀ i-end i = Clear (own_fault_at (term_in terms)) (length terms) i
 
-abbrev decreases-loop : tie.decreases-loop
+abbrev decreases-loop : tie.decreases-loop-i
 decreases-loop terms i₀ i-end i = length terms - i
 
 abbrev faults : tie.Start invariant-loop decreases-loop → ℕ → Option Refusal
 faults s = own_fault_at (term_in s.args.terms.now)
 
-found : (c : tie.After-judge-term invariant-loop decreases-loop) → let l = c.before.before.before in c.judge-term.result ≡ judged l.loop.i (faults l.before l.loop.i)
-found c = rw c.before.term-at.ensures at c.judge-term.ensures
+found : (c : tie.After-judge_term-found invariant-loop decreases-loop) → let l = c.before.before.before in c.judge-term.result ≡ judged l.loop.i (faults l.before l.loop.i)
+found c = rw c.before.term_at.ensures at c.judge_term-found.ensures
 
-returns : tie.Need-returns invariant-loop decreases-loop
+returns : tie.Need-returns-in_default invariant-loop decreases-loop
 returns c =
     let l = c.before.before.before.before.before in
-    stops (faults l.before) (omega arith) l.loop.invariant (found c.before.before) c.enum-told2.given.1
+    stops (faults l.before) (omega arith) l.loop-i.invariant (found c.before.before) c.enum_told-in_default-1.given.1
 
-loop-again : tie.Need-loop-preserved invariant-loop decreases-loop
+loop-again : tie.Need-loop-i-preserved invariant-loop decreases-loop
 loop-again c =
     let l = c.before.before.before.before.before in
-    goes_on (faults l.before) (omega arith) l.loop.invariant (found c.before.before) c.enum_told.given.1
+    goes_on (faults l.before) (omega arith) l.loop-i.invariant (found c.before.before) c.enum_told-1.given.1
 
-returns-2 : tie.Need-returns-2 invariant-loop decreases-loop
-returns-2 c = let l = c.before in ends (faults l.before) (omega arith) l.loop.invariant
+returns-2 : tie.Need-returns invariant-loop decreases-loop
+returns-2 c = let l = c.before in ends (faults l.before) (omega arith) l.loop-i.invariant
 
-pub first-own-fault-spec : {M : Type 1} → statement M
-first-own-fault-spec =
+pub first_own_fault_spec : {M : Type 1} → statement M
+first_own_fault_spec =
     tie.close
     (tie.spec
     invariant-loop

@@ -14,11 +14,11 @@ use Rattle.refusals.specs.Listed.{Noted, Listed, listed_none, listed_more, unlis
 use Rattle.refusals.proofs.terms.first_repeat.Statement.{statement}
 use Rattle.refusals.proofs.terms.first_repeat.Tie as tie
 
-abbrev invariant-loop : tie.invariant-loop
+abbrev invariant-loop : tie.invariant-loop-j
 invariant-loop terms listed place₀ i term j₀ i-end place j =
     (j ≤ i) × ((place ≡ length terms) × ((k : ℕ) → k < j → is_same_atom (term_in terms i) (term_in terms k) ≡ false))
 
-abbrev decreases-loop : tie.decreases-loop
+abbrev decreases-loop : tie.decreases-loop-j
 decreases-loop terms listed place₀ i term j₀ i-end place j = i - j
 
 abbrev invariant-scan : tie.invariant-scan
@@ -33,56 +33,56 @@ records s = term_in s.args.terms.now
 
 -- what the comparison of records i and j finds
 found :
-    (c : tie.After-same-atom invariant-loop decreases-loop invariant-scan decreases-scan) →
+    (c : tie.After-same_atom invariant-loop decreases-loop invariant-scan decreases-scan) →
     let l = c.before.before.before in
     let t = l.before.before.before.before in
     let s = t.before.before in
     is_same_atom (records s.before s.scan.i) (records s.before l.loop.j) ≡ c.same-atom.result
 found c = sym (rw (c.before.before.before.before.before.before.before.term-at.ensures, c.before.term-at2.ensures) at c.same-atom.ensures)
 
-scan-again : tie.Need-scan-preserved invariant-loop decreases-loop invariant-scan decreases-scan
+scan-again : tie.Need-scan-preserved-then-note_atom invariant-loop decreases-loop invariant-scan decreases-scan
 scan-again c =
     let t = c.before.before.before in
     let s = t.before.before in
     let rec = records s.before in
-    let N = rw t.term-at.ensures at c.before.note-atom.ensures in
-    let clear = no_repeat rec s.scan.i (unlisted rec s.scan.invariant.1.1 N c.if1.true) in
+    let N = rw t.term_at-term.ensures at c.before.note_atom.ensures in
+    let clear = no_repeat rec s.scan.i (unlisted rec s.scan.invariant.1.1 N c.if-note_atom.true) in
     (s.scan.invariant.0, (passes (repeat_fault_at rec) (omega arith) s.scan.invariant.1.0 clear, listed_more rec s.scan.invariant.1.1 N))
 
-loop-again : tie.Need-loop-preserved invariant-loop decreases-loop invariant-scan decreases-scan
+loop-again : tie.Need-loop-j-preserved invariant-loop decreases-loop invariant-scan decreases-scan
 loop-again c =
-    let l = c.before.before.before.before.loop in
-    (omega arith, (l.invariant.1.0, below_more _ l.j l.invariant.1.1 (found c.before ∙ c.if2.false)))
+    let l = c.before.before.before.before.loop-j in
+    (omega arith, (l.invariant.1.0, below_more _ l.j l.invariant.1.1 (found c.before ∙ c.if-same_atom.false)))
 
-scan-again-2 : tie.Need-scan-preserved-2 invariant-loop decreases-loop invariant-scan decreases-scan
+scan-again-2 : tie.Need-scan-preserved invariant-loop decreases-loop invariant-scan decreases-scan
 scan-again-2 c =
-    let l = c.before.loop in
+    let l = c.before.loop-j in
     let t = c.before.before.before.before.before in
     let s = t.before.before in
     let rec = records s.before in
     let e : l.j ≡ s.scan.i = omega arith in
-    let N = rw t.term-at.ensures at c.before.before.before.note-atom.ensures in
+    let N = rw t.term_at-term.ensures at c.before.before.before.note_atom.ensures in
     let clear = no_repeat rec s.scan.i (rw e at l.invariant.1.1) in
     (l.invariant.1.0, (passes (repeat_fault_at rec) (omega arith) s.scan.invariant.1.0 clear, listed_more rec s.scan.invariant.1.1 N))
 
-returns : tie.Need-returns invariant-loop decreases-loop invariant-scan decreases-scan
+returns : tie.Need-returns-after-scan invariant-loop decreases-loop invariant-scan decreases-scan
 returns c =
     let l = c.before.scan in
     let s = c.before.before in
     let n = length s.args.terms.now in
     l.invariant.0 ∙ sym (ap (place_or n) (first_clear (repeat_fault_at (records s)) n l.i (omega arith) l.invariant.1.0))
 
-returns-2 : tie.Need-returns-2 invariant-loop decreases-loop invariant-scan decreases-scan
+returns-2 : tie.Need-returns-then-same_atom invariant-loop decreases-loop invariant-scan decreases-scan
 returns-2 c =
-    let l = c.before.before.before.before.loop in
+    let l = c.before.before.before.before.loop-j in
     let o = c.before.before.before.before.before.before.before.before.before.before in
     let s = o.before in
     let n = length s.args.terms.now in
-    let again = repeats (records s) o.scan.i l.j (omega arith) (found c.before ∙ c.if2.true) in
+    let again = repeats (records s) o.scan.i l.j (omega arith) (found c.before ∙ c.if-same_atom.true) in
     sym (ap (place_or n) (first_found (repeat_fault_at (records s)) n o.scan.i (omega arith) o.scan.invariant.1.0 again))
 
-pub first-repeat-spec : {M : Type 1} → statement M
-first-repeat-spec =
+pub first_repeat_spec : {M : Type 1} → statement M
+first_repeat_spec =
     tie.close
     (tie.spec
     invariant-loop

@@ -7,35 +7,35 @@ use native.Mathlib.Omega.{arith}
 use Rattle.settling.proofs.seen.skip_classes.Statement.{statement}
 use Rattle.settling.proofs.seen.skip_classes.Tie as tie
 
-abbrev invariant-loop : tie.invariant-loop
+abbrev invariant-loop : tie.invariant-loop-a
 invariant-loop n owners owner-first owner-next seen₀ a₀ seen a = SameOwner n owners seen
 
-abbrev decreases-loop : tie.decreases-loop
+abbrev decreases-loop : tie.decreases-loop-a
 decreases-loop n owners owner-first owner-next seen₀ a₀ seen a = n - a
 
-loop-holds : tie.Need-loop-init invariant-loop decreases-loop
+loop-holds : tie.Need-loop-a-init invariant-loop decreases-loop
 loop-holds c = c.before.before.before.before.requires.0
 
-skip-class-requires : tie.Need-skip-class-requires invariant-loop decreases-loop
-skip-class-requires c κs = let q = c.before.before.before.before.before.before.before.requires in (c.before.before.loop.invariant, (q.1.0, (c.before.loop-test.true, q.1.1)))
+skip-class-requires : tie.Need-skip_class-requires invariant-loop decreases-loop
+skip-class-requires c κs = let q = c.before.before.before.before.before.before.before.requires in (c.before.before.loop-a.invariant, (q.1.0, (c.before.loop-a-test.true, q.1.1)))
 
-add_a : tie.Need-overflow-add-a invariant-loop decreases-loop
-add_a c = omega (arith, c.before.before.before.before.loop-test.true, c.before.before.before.before.before.before.before.before.before.before.requires.1.0)
+add_a : tie.Need-overflow_step-a invariant-loop decreases-loop
+add_a c = omega (arith, c.before.before.before.before.loop-a-test.true, c.before.before.before.before.before.before.before.before.before.before.requires.1.0)
 
-loop-less : tie.Need-loop-smaller invariant-loop decreases-loop
-loop-less c = omega (arith, c.before.before.before.before.loop-test.true)
+loop-less : tie.Need-loop-a-smaller invariant-loop decreases-loop
+loop-less c = omega (arith, c.before.before.before.before.loop-a-test.true)
 
-loop-again : tie.Need-loop-preserved invariant-loop decreases-loop
-loop-again c = c.before.before.skip-class.ensures
+loop-again : tie.Need-loop-a-preserved invariant-loop decreases-loop
+loop-again c = c.before.before.skip_class.ensures
 
-same_length : tie.Need-same-length invariant-loop decreases-loop
-same_length c = c.before.loop.invariant.long ∙ sym c.before.before.before.before.before.before.requires.0.long
+same_length : tie.Need-shape_of-seen invariant-loop decreases-loop
+same_length c = c.before.loop-a.invariant.long ∙ sym c.before.before.before.before.before.before.requires.0.long
 
 returns : tie.Need-returns invariant-loop decreases-loop
-returns c = c.before.loop.invariant
+returns c = c.before.loop-a.invariant
 
-pub skip-classes-spec : {M : Type 1} → statement M
-skip-classes-spec =
+pub skip_classes_spec : {M : Type 1} → statement M
+skip_classes_spec =
     tie.close
     (tie.spec
     invariant-loop

@@ -8,38 +8,38 @@ use native.Mathlib.Omega.{arith}
 use Rattle.settling.proofs.seen.store_rows.Statement.{statement}
 use Rattle.settling.proofs.seen.store_rows.Tie as tie
 
-abbrev invariant-loop : tie.invariant-loop
+abbrev invariant-loop : tie.invariant-loop-i
 invariant-loop n a owners owner-first owner-next own seen₀ i₀ seen i = ((i ≤ n) × (i < n → get_or owners i 0 ≡ a)) × SameOwner n owners seen
 
-abbrev decreases-loop : tie.decreases-loop
+abbrev decreases-loop : tie.decreases-loop-i
 decreases-loop n a owners owner-first owner-next own seen₀ i₀ seen i = n - i
 
-linked-requires : tie.Need-linked-requires invariant-loop decreases-loop
+linked-requires : tie.Need-linked-i-requires invariant-loop decreases-loop
 linked-requires c κs = omega (arith, c.before.before.before.before.before.requires.1.1.1.starts.long, c.before.before.before.before.before.requires.1.0, c.before.before.before.before.before.requires.1.1.0)
 
-loop-holds : tie.Need-loop-init invariant-loop decreases-loop
-loop-holds c = let N = c.before.before.before.before.before.before.requires.1.1.1.starts.from c.before.before.before.before.before.before.args.a (omega (arith, c.before.before.before.before.before.before.requires.1.0, c.before.before.before.before.before.before.requires.1.1.0)) in rw c.linked.ensures ((N.inside, N.hit), c.before.before.before.before.before.before.requires.0.1.1)
+loop-holds : tie.Need-loop-i-init invariant-loop decreases-loop
+loop-holds c = let N = c.before.before.before.before.before.before.requires.1.1.1.starts.from c.before.before.before.before.before.before.args.a (omega (arith, c.before.before.before.before.before.before.requires.1.0, c.before.before.before.before.before.before.requires.1.1.0)) in rw c.linked-i.ensures ((N.inside, N.hit), c.before.before.before.before.before.before.requires.0.1.1)
 
-store-row-requires : tie.Need-store-row-requires invariant-loop decreases-loop
-store-row-requires c κs = let q = c.before.before.before.before.before.before.before.before.before.requires in ((q.0.0, (q.0.1.0, c.before.before.loop.invariant.1)), (c.before.loop-test.true, (q.1.0, (q.1.1.0, c.before.before.loop.invariant.0.1 c.before.loop-test.true))))
+store-row-requires : tie.Need-store_row-requires invariant-loop decreases-loop
+store-row-requires c κs = let q = c.before.before.before.before.before.before.before.before.before.requires in ((q.0.0, (q.0.1.0, c.before.before.loop-i.invariant.1)), (c.before.loop-i-test.true, (q.1.0, (q.1.1.0, c.before.before.loop-i.invariant.0.1 c.before.loop-i-test.true))))
 
-linked-requires-2 : tie.Need-linked-requires-2 invariant-loop decreases-loop
-linked-requires-2 c κs = omega (arith, c.before.before.before.before.before.before.before.before.before.before.before.before.requires.1.1.1.room, c.before.before.before.before.loop-test.true)
+linked-requires-2 : tie.Need-linked-i-requires-in-loop-i invariant-loop decreases-loop
+linked-requires-2 c κs = omega (arith, c.before.before.before.before.before.before.before.before.before.before.before.before.requires.1.1.1.room, c.before.before.before.before.loop-i-test.true)
 
-loop-less : tie.Need-loop-smaller invariant-loop decreases-loop
-loop-less c = let f = (c.before.before.before.before.before.before.before.before.before.before.before.before.before.requires.1.1.1.links.links c.before.before.before.before.before.before.loop.i (omega arith) c.before.before.before.before.before.loop-test.true).after in omega (arith, c.linked2.ensures, c.before.before.before.before.before.loop-test.true)
+loop-less : tie.Need-loop-i-smaller invariant-loop decreases-loop
+loop-less c = let f = (c.before.before.before.before.before.before.before.before.before.before.before.before.before.requires.1.1.1.links.links c.before.before.before.before.before.before.loop-i.i (omega arith) c.before.before.before.before.before.loop-i-test.true).after in omega (arith, c.linked-i-in-loop-i.ensures, c.before.before.before.before.before.loop-i-test.true)
 
-loop-again : tie.Need-loop-preserved invariant-loop decreases-loop
-loop-again c = let N = c.before.before.before.before.before.before.before.before.before.before.before.before.before.requires.1.1.1.links.links c.before.before.before.before.before.before.loop.i (omega arith) c.before.before.before.before.before.loop-test.true in rw c.linked2.ensures ((N.inside, λ g. N.hit g ∙ c.before.before.before.before.before.before.loop.invariant.0.1 c.before.before.before.before.before.loop-test.true), c.before.before.before.store-row.ensures)
+loop-again : tie.Need-loop-i-preserved invariant-loop decreases-loop
+loop-again c = let N = c.before.before.before.before.before.before.before.before.before.before.before.before.before.requires.1.1.1.links.links c.before.before.before.before.before.before.loop-i.i (omega arith) c.before.before.before.before.before.loop-i-test.true in rw c.linked-i-in-loop-i.ensures ((N.inside, λ g. N.hit g ∙ c.before.before.before.before.before.before.loop-i.invariant.0.1 c.before.before.before.before.before.loop-i-test.true), c.before.before.before.store_row.ensures)
 
-same_length : tie.Need-same-length invariant-loop decreases-loop
-same_length c = c.before.loop.invariant.1.long ∙ sym c.before.before.before.before.before.before.before.before.requires.0.1.1.long
+same_length : tie.Need-shape_of-seen invariant-loop decreases-loop
+same_length c = c.before.loop-i.invariant.1.long ∙ sym c.before.before.before.before.before.before.before.before.requires.0.1.1.long
 
 returns : tie.Need-returns invariant-loop decreases-loop
-returns c = c.before.loop.invariant.1
+returns c = c.before.loop-i.invariant.1
 
-pub store-rows-spec : {M : Type 1} → statement M
-store-rows-spec =
+pub store_rows_spec : {M : Type 1} → statement M
+store_rows_spec =
     tie.close
     (tie.spec
     invariant-loop
