@@ -16,7 +16,7 @@ WORD = r"[^\s(){}.,;:=→×@\"`|«»]+"
 
 def plain(name):
     """A name as port.py may have left it, in one spelling."""
-    name = name.replace("_", "-")
+    name = re.sub(r"-lem\b", "", name.replace("_", "-"))
     return name[len("overflow-"):] if name.startswith("overflow-") else name
 
 
@@ -48,23 +48,49 @@ class Function:
         self.parent, self.step, self.callee = Plain(), Plain(), Plain()
         for name, parent, step, callee, _ in told["places"]:
             self.parent[name], self.step[name], self.callee[name] = parent, step, callee
+        self.arms = Plain((p[0], arm) for p, arm in zip(told["places"], told["arms"]))
         self.new_place = Plain(zip([p[0] for p in told["places"]], told["places_by_name"]))
         self.loops = Plain((pair[0][0], pair[0][1]) for pair in told["loops"])
 
+    def outward(self, place):
+        while place:
+            yield place
+            place = self.parent.get(place)
+
     def walk(self, place, fields):
-        """The fields of a path from a place, renamed, and the place that it ends at, or None."""
-        out = []
-        while fields:
-            f, rest = fields[0], fields[1:]
-            if f == "before" and self.parent.get(place):
-                place, fields = self.parent[place], rest
-                out.append(f)
-                continue
-            old, new = self.step.get(place, ("", ""))
-            if old and plain(f) == plain(old):
-                return out + [new] + rest, None
-            return out + fields, None
-        return out, place
+        """The fields of a path from a place, renamed, and the place that it ends at, or None. A place has the steps of all places before it."""
+        n = 0
+        while n < len(fields) and fields[n] == "before":
+            n += 1
+        rest = fields[n:]
+        if not rest:
+            for _ in range(n):
+                place = self.parent.get(place) or place
+            return [], place
+        if rest[0] in ("args", "ranges", "requires", "lifetimes", "well_formed"):
+            return rest, None
+        found = [p for p in self.outward(place) if self.step.get(p) and plain(rest[0]) in map(plain, self.step[p])]
+        if found:
+            old, new = self.step[found[0]]
+            best = None
+            for p in self.outward(place):
+                arm = self.arms.get(p)
+                for field, step, way in (arm[2] if arm else []):
+                    if plain(step) == plain(old) and way and rest[1 : 1 + len(way)] == way and (best is None or len(way) > len(best[2])):
+                        best = (arm[0], field, way)
+            if best:
+                return [best[0], best[1], *rest[1 + len(best[2]):]], None
+            return [new, *rest[1:]], None
+        return rest, None
+
+    def before(self, place, to):
+        """How to name a place from one after it."""
+        n = 0
+        for p in self.outward(place):
+            if plain(p) == plain(to):
+                return ".before" * n
+            n += 1
+        return None
 
 
 def turn(text, fn, name):
@@ -87,7 +113,20 @@ def turn(text, fn, name):
             if place is None:
                 return m.group(0)
             new, end = fn.walk(place, fields)
+            if end is not None:
+                helper = re.search(r"(" + WORD + r") $", line[: m.start()])
+                wants = signatures.get(helper.group(1), [None])[0] if helper else None
+                way = fn.before(place, wants) if wants else None
+                return base + way if way is not None else m.group(0)
             return ".".join([base, *new])
+
+        def handed(m):
+            """A place that a helper is given, which may be one before it."""
+            wants = signatures.get(m.group(1), [None])[0] if m.group(1) in signatures else None
+            if m.group(2) not in env or not wants:
+                return m.group(0)
+            way = fn.before(env[m.group(2)], wants)
+            return m.group(1) + " " + m.group(2) + (way or "")
 
         # an alias of a place: let l = c.before in
         pos, done = 0, ""
@@ -97,10 +136,11 @@ def turn(text, fn, name):
                 new, end = fn.walk(env[base], fields)
                 if end is not None:
                     done += PATH.sub(one, line[pos:m.start()])
-                    done += m.group(0)
+                    done += m.group(0)[: m.start(2) - m.start()] + base
                     pos = m.end()
-                    env[m.group(1)] = end
-        return done + PATH.sub(one, line[pos:])
+                    env[m.group(1)] = env[base]
+        done = done + PATH.sub(one, line[pos:])
+        return re.sub(r"(?<![\w.'-])(" + WORD + r") ([\w'₀]+)(?![\w.'₀-])", handed, done)
 
     spec = None
     for line in lines:
@@ -131,6 +171,7 @@ def turn(text, fn, name):
             spec = 0
         out.append(paths(types(line)))
     text = "\n".join(out)
+    text = re.sub(r"\bnot-(?:true|false) (?:_|[\w'.₀\-]+|\([^()]*\)) ([\w'₀]+\.if-not-[\w\-']+\.(?:true|false))", r"\1", text)
     dashed = name.replace("_", "-")
     text = re.sub(r"(?<![\w\-'.])" + re.escape(dashed) + r"-spec(?![\w\-'])", name + "_spec", text)
     return lambdas(text, fn)
@@ -175,15 +216,14 @@ def lambdas(text, fn):
     made, pos = "", 0
     for (a, b), need in zip(args[first:], fn.order):
         arg = tail[a:b]
-        m = re.match(r"\(λ ([\w'₀]+)\.", arg)
+        m = re.match(r"\(λ ([\w'₀]+)(?: [\w'₀]+)*\.", arg)
         made += tail[pos:a]
         if m and fn.at.get(need):
             env = {m.group(1): fn.at[need]}
             for al in re.finditer(r"\blet ([\w'₀]+) = ([^\W\d][\w'₀]*)((?:\.before)*)(?= in\b)", arg):
                 if al.group(2) in env:
-                    end = fn.walk(env[al.group(2)], al.group(3).split(".")[1:])[1]
-                    if end:
-                        env[al.group(1)] = end
+                    env[al.group(1)] = env[al.group(2)]
+            arg = re.sub(r"(\blet [\w'₀]+ = [^\W\d][\w'₀]*)((?:\.before)*)(?= in\b)", lambda m: m.group(1), arg)
             arg = PATH.sub(lambda p: ".".join([p.group(1), *fn.walk(env[p.group(1)], p.group(2)[1:].split("."))[0]]) if p.group(1) in env else p.group(0), arg)
         made += arg
         pos = b

@@ -16,7 +16,7 @@ decreases-loop terms propositions marks₀ representatives₀ offsets₀ k₀ ru
 
 loop-holds : tie.Need-loop-k-init invariant-loop decreases-loop
 loop-holds c =
-    let s = c.before.before in
+    let s = c in
     let l = s.requires.0 in
     record {
       trying = trying_start _ s.args.marks.now l.marks_count s.requires.1;
@@ -28,9 +28,9 @@ loop-holds c =
 
 drop-run-requires : tie.Need-drop_run-requires invariant-loop decreases-loop
 drop-run-requires c κs =
-    let a = c.before.before.before in
-    let l = a.before.before in
-    let s = l.before.before.before in
+    let a = c in
+    let l = a in
+    let s = l in
     let i = l.loop-k.invariant in (
       record { good = s.requires.0.good; marks_count = i.trying.count; reps_count = i.reps_count; offs_count = i.offs_count },
       (omega (arith, a.run_start-low.ensures), i.trying.within, i.trying.ones),
@@ -39,21 +39,21 @@ drop-run-requires c κs =
 -- the next run's length fits
 mul-run : tie.Need-overflow_mul-run invariant-loop decreases-loop
 mul-run c =
-    let a = c.before.before.before.before.before.before.before.before.before.before in
-    omega (arith, a.run_start-low.ensures, a.before.before.loop-k.invariant.run_most)
+    let a = c in
+    omega (arith, a.run_start-low.ensures, a.loop-k.invariant.run_most)
 
 loop-less : tie.Need-loop-k-smaller-then-drop_run invariant-loop decreases-loop
 loop-less c =
-    let a = c.before.before.before.before.before.before.before.before.before.before in
-    omega (arith, a.run_start-low.ensures, a.before.loop-k-test.true, a.before.before.loop-k.invariant.run_least)
+    let a = c in
+    omega (arith, a.run_start-low.ensures, a.loop-k-test.true, a.loop-k.invariant.run_least)
 
 loop-again : tie.Need-loop-k-preserved-then-drop_run invariant-loop decreases-loop
 loop-again c =
-    let t = c.before.before.before.before.before.before in
-    let a = t.before.before.before.before in
-    let h = a.before.loop-k-test.true in
-    let l = a.before.before in
-    let s = l.before.before.before in
+    let t = c in
+    let a = t in
+    let h = a.loop-k-test.true in
+    let l = a in
+    let s = l in
     let i = l.loop-k.invariant in
     let e = sym t.drop_run.ensures.0 ∙ c.if-drop_run.true in
     record {
@@ -66,12 +66,12 @@ loop-again c =
 
 find-blamed-requires : tie.Need-find_blamed-blamed-requires invariant-loop decreases-loop
 find-blamed-requires c κs =
-    let f = c.before.before.before in
-    let t = f.before.before.before.before.before.before in
-    let a = t.before.before.before.before in
-    let h = a.before.loop-k-test.true in
-    let l = a.before.before in
-    let s = l.before.before.before in
+    let f = c in
+    let t = f in
+    let a = t in
+    let h = a.loop-k-test.true in
+    let l = a in
+    let s = l in
     let i = l.loop-k.invariant in
     let stays = sym t.drop_run.ensures.0 ∙ f.if-drop_run.false in
     let same = t.drop_run.ensures.1 ∙ tried_kept _ l.loop-k.marks a.run_start-low.result l.loop-k.k stays in (
@@ -86,12 +86,12 @@ find-blamed-requires c κs =
 
 loop-again-2 : tie.Need-loop-k-preserved invariant-loop decreases-loop
 loop-again-2 c =
-    let b = c.before.before.before.before.before in
-    let f = b.before.before.before.before in
-    let t = f.before.before.before.before.before.before in
-    let a = t.before.before.before.before in
-    let l = a.before.before in
-    let s = l.before.before.before in
+    let b = c in
+    let f = b in
+    let t = f in
+    let a = t in
+    let l = a in
+    let s = l in
     let i = l.loop-k.invariant in
     let stays = sym t.drop_run.ensures.0 ∙ f.if-drop_run.false in
     let same = t.drop_run.ensures.1 ∙ tried_kept _ l.loop-k.marks a.run_start-low.result l.loop-k.k stays in
@@ -106,7 +106,7 @@ loop-again-2 c =
 
 returns : tie.Need-returns invariant-loop decreases-loop
 returns c =
-    let l = c.before in
+    let l = c in
     let e : l.loop-k.k ≡ 0 = omega (arith, c.loop-k-test.false) in
     trying_end _ l.loop-k.marks (rw e at l.loop-k.invariant.trying)
 
@@ -119,14 +119,14 @@ blame_marks_spec =
     loop-holds
     (λ c κs. search rules)
     drop-run-requires
-    (λ c. omega (arith, c.before.before.before.before.before.before.before.before.before.before.run_start-low.ensures))
+    (λ c. omega (arith, c.run_start-low.ensures))
     mul-run
     loop-less
     loop-again
     find-blamed-requires
-    (λ c. let e = c.before.before.before.before.before.find_blamed-blamed.ensures in omega (arith, e.nonempty, e.below))
+    (λ c. let e = c.find_blamed-blamed.ensures in omega (arith, e.nonempty, e.below))
     loop-again-2
-    (λ c. omega (arith, c.before.loop-k.invariant.trying.count))
-    (λ c. omega (arith, c.before.loop-k.invariant.reps_count))
-    (λ c. omega (arith, c.before.loop-k.invariant.offs_count))
+    (λ c. omega (arith, c.loop-k.invariant.trying.count))
+    (λ c. omega (arith, c.loop-k.invariant.reps_count))
+    (λ c. omega (arith, c.loop-k.invariant.offs_count))
     returns)

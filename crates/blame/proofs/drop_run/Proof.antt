@@ -8,30 +8,30 @@ use Rattle.blame.proofs.drop_run.Tie as tie
 
 is-consistent-requires : tie.Need-is_consistent-requires
 is-consistent-requires c κs =
-    let w = c.before.before.before.before.before in
-    let l = w.before.before.before.before.requires.0 in
-    ((l.good, omega (arith, w.write-run.auto, l.marks_count)), (l.reps_count, l.offs_count))
+    let w = c in
+    let l = w.requires.0 in
+    ((l.good, omega (arith, w.write_run.auto, l.marks_count)), (l.reps_count, l.offs_count))
 
 returns : tie.Need-returns-then-not-is_consistent
 returns c =
-    let d = c.before.before.before.before in
-    let w = d.before.before.before.before.before.before in
-    let s = w.before.before.before.before in
-    run_dropped _ s.args.marks.now s.args.from s.args.to s.requires.0.good w.write-run.ensures
-    (rw (not-true d.is_consistent.result c.if-not-is_consistent.true) at d.is_consistent.ensures)
+    let d = c in
+    let w = d in
+    let s = w in
+    run_dropped _ s.args.marks.now s.args.from s.args.to s.requires.0.good w.write_run.ensures
+    (rw (c.if-not-is_consistent.true) at d.is_consistent.ensures)
 
 returns-2 : tie.Need-returns
 returns-2 c =
-    let a = c.before.before.before.before in
-    let d = a.before.before.before.before in
-    let w = d.before.before.before.before.before.before in
-    let s = w.before.before.before.before in
-    run_kept _ s.args.marks.now s.args.from s.args.to s.requires.0.good w.write-run.ensures
-    (rw (not-false d.is_consistent.result a.if-not-is_consistent.false) at d.is_consistent.ensures)
+    let a = c in
+    let d = a in
+    let w = d in
+    let s = w in
+    run_kept _ s.args.marks.now s.args.from s.args.to s.requires.0.good w.write_run.ensures
+    (rw (a.if-not-is_consistent.false) at d.is_consistent.ensures)
     s.requires.1.0
     (omega (arith, s.requires.0.marks_count, s.requires.1.1))
     s.requires.1.2
-    c.before.before.write_run-2.ensures
+    c.write_run-2.ensures
 
 pub drop_run_spec : {M : Type 1} → statement M
 drop_run_spec =

@@ -17,7 +17,7 @@ decreases-loop terms propositions marks₀ representatives₀ offsets₀ from to
 
 loop-holds : tie.Need-loop-high-init invariant-loop decreases-loop
 loop-holds c =
-    let s = c.before.before in
+    let s = c in
     let l = s.requires.0 in
     let p = s.requires.1.0 in
     record {
@@ -28,8 +28,8 @@ loop-holds c =
 
 drop-run-requires : tie.Need-drop_run-requires invariant-loop decreases-loop
 drop-run-requires c κs =
-    let l = c.before.before.before.before in
-    let s = l.before.before.before in
+    let l = c in
+    let s = l in
     let p = s.requires.1.0 in
     let i = l.loop-high.invariant in
     let w : s.args.to ≤ length s.args.marks.now = omega (arith, s.requires.0.marks_count, p.1) in
@@ -42,10 +42,10 @@ drop-run-requires c κs =
 
 loop-again : tie.Need-loop-high-preserved-then-drop_run invariant-loop decreases-loop
 loop-again c =
-    let t = c.before.before.before.before.before.before in
-    let l = t.before.before.before.before.before in
-    let h = t.before.before.before.before.loop-high-test.true in
-    let s = l.before.before.before in
+    let t = c in
+    let l = t in
+    let h = t.loop-high-test.true in
+    let s = l in
     let i = l.loop-high.invariant in
     let w : s.args.to ≤ length s.args.marks.now = omega (arith, s.requires.0.marks_count, s.requires.1.0.1) in
     let mid = l.loop-high.low + (l.loop-high.high - l.loop-high.low) / 2 in
@@ -58,10 +58,10 @@ loop-again c =
 
 loop-again-2 : tie.Need-loop-high-preserved invariant-loop decreases-loop
 loop-again-2 c =
-    let t = c.before.before.before.before.before.before in
-    let l = t.before.before.before.before.before in
-    let h = t.before.before.before.before.loop-high-test.true in
-    let s = l.before.before.before in
+    let t = c in
+    let l = t in
+    let h = t.loop-high-test.true in
+    let s = l in
     let i = l.loop-high.invariant in
     let w : s.args.to ≤ length s.args.marks.now = omega (arith, s.requires.0.marks_count, s.requires.1.0.1) in
     let mid = l.loop-high.low + (l.loop-high.high - l.loop-high.low) / 2 in
@@ -74,14 +74,14 @@ loop-again-2 c =
 
 same_length : tie.Need-shape_of-marks invariant-loop decreases-loop
 same_length c =
-    let l = c.before in
-    let s = l.before.before.before in
+    let l = c in
+    let s = l in
     let w : s.args.to ≤ length s.args.marks.now = omega (arith, s.requires.0.marks_count, s.requires.1.0.1) in
     blamed_length w l.loop-high.invariant.blamed
 
 returns : tie.Need-returns invariant-loop decreases-loop
 returns c =
-    let l = c.before in
+    let l = c in
     let e : l.loop-high.high ≡ suc l.loop-high.low = omega (arith, c.loop-high-test.false, l.loop-high.invariant.blamed.nonempty) in
     rw e at l.loop-high.invariant.blamed
 
@@ -93,14 +93,14 @@ find_blamed_spec =
     decreases-loop
     loop-holds
     (λ c. omega (arith, c.loop-high.invariant.blamed.nonempty))
-    (λ c. omega (arith, c.before.loop-high.invariant.blamed.nonempty))
+    (λ c. omega (arith, c.loop-high.invariant.blamed.nonempty))
     (λ c. omega arith)
     drop-run-requires
-    (λ c. omega (arith, c.before.before.before.before.before.before.before.before.before.before.loop-high-test.true))
+    (λ c. omega (arith, c.loop-high-test.true))
     loop-again
-    (λ c. omega (arith, c.before.before.before.before.before.before.before.before.before.before.loop-high-test.true))
+    (λ c. omega (arith, c.loop-high-test.true))
     loop-again-2
     same_length
-    (λ c. omega (arith, c.before.loop-high.invariant.reps_count))
-    (λ c. omega (arith, c.before.loop-high.invariant.offs_count))
+    (λ c. omega (arith, c.loop-high.invariant.reps_count))
+    (λ c. omega (arith, c.loop-high.invariant.offs_count))
     returns)

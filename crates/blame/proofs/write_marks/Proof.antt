@@ -8,13 +8,13 @@ use Rattle.blame.proofs.write_marks.Statement.{statement}
 use Rattle.blame.proofs.write_marks.Tie as tie
 
 returns : tie.Need-returns-in-Asked
-returns c = rw c.before.before.before.before.before.before.before.before.before.enum_told-1.given.1 c.before.before.before.before.before.blame_marks.ensures
+returns c = rw c.in-Asked.is c.blame_marks.ensures
 
 returns-2 : tie.Need-returns-in-NotAsked
 returns-2 c =
-    let s = c.before.before.before.before.before.before.before.before in
+    let s = c in
     let count = s.requires.0.marks_count ∙ sym (length_blame_marks (set_of s.args.terms.now s.args.propositions.now)) in
-    rw c.before.before.before.before.enum_told-in-NotAsked-1.given.1 (filled_as 0 c.before.before.fill.ensures count)
+    rw c.in-NotAsked.is (filled_as 0 c.fill.ensures count)
 
 pub write_marks_spec : {M : Type 1} → statement M
 write_marks_spec =

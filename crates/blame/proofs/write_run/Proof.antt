@@ -6,8 +6,8 @@ use Rattle.blame.proofs.write_run.Tie as tie
 
 returns : tie.Need-returns
 returns c =
-    let s = c.before.before.before.before.before in
-    run_lent s.args.marks.now s.args.from s.args.to s.args.value s.requires.0 s.requires.1 c.before.before.fill.ensures
+    let s = c in
+    run_lent s.args.marks.now s.args.from s.args.to s.args.value s.requires.0 s.requires.1 c.fill.ensures
 
 pub write_run_spec : {M : Type 1} → statement M
 write_run_spec =

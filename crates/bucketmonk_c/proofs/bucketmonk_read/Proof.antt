@@ -5,7 +5,7 @@ use Rattle.bucketmonk_c.proofs.bucketmonk_read.Tie as tie
 
 returns : tie.Need-returns
 returns c =
-    let s = c.before.before.before.before.read-found in
+    let s = c.read-found in
     record { result = s.result; number = c.read_number.ensures; read = s.ensures }
 
 pub bucketmonk_read_spec : {M : Type 1} → statement M

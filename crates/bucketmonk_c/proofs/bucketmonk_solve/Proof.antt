@@ -5,8 +5,8 @@ use Rattle.bucketmonk_c.proofs.bucketmonk_solve.Tie as tie
 
 returns : tie.Need-returns
 returns c =
-    let s = c.before.before.before.before.before.before.before.before.before.before.solve in
-    let b = c.before.before.before.before.before.before.before.before.before.before.before.before.before.before.before.before.blame_of.ensures in
+    let s = c.solve in
+    let b = c.blame_of.ensures in
     record { solved = s.result; number = c.solved_number.ensures; answered = rw b at s.ensures }
 
 pub bucketmonk_solve_spec : {M : Type 1} → statement M

@@ -16,7 +16,7 @@ loop-holds : tie.Need-loop-t-init invariant-loop decreases-loop
 loop-holds c = omega arith
 
 loop-less : tie.Need-loop-t-smaller invariant-loop decreases-loop
-loop-less c = omega (arith, c.before.before.before.loop-t-test.true)
+loop-less c = omega (arith, c.loop-t-test.true)
 
 loop-again : tie.Need-loop-t-preserved invariant-loop decreases-loop
 loop-again c = omega arith

@@ -20,55 +20,55 @@ decreases-loop terms parents₀ offsets₀ notes₀ keys₀ counter₀ parents o
 
 loop-holds : tie.Need-loop-init invariant-loop decreases-loop
 loop-holds c =
-    let s = c.before in
+    let s = c in
     (omega arith, (chased_start (length s.args.terms.now) (term_in s.args.terms.now) s.requires.1, refl))
 
 same_length : tie.Need-shape_of-parents-then-terms-x invariant-loop decreases-loop
-same_length c = chased_long _ _ c.before.before.before.before.loop.invariant.1.0
+same_length c = chased_long _ _ c.loop.invariant.1.0
 
 same-length-2 : tie.Need-shape_of-offsets-then-terms-x invariant-loop decreases-loop
-same-length-2 c = c.before.before.before.before.loop.invariant.1.1
+same-length-2 c = c.loop.invariant.1.1
 
 returns : tie.Need-returns-then-terms-x invariant-loop decreases-loop
-returns c = c.before.before.before.before.loop.invariant.1.0
+returns c = c.loop.invariant.1.0
 
 step-requires : tie.Need-step-requires invariant-loop decreases-loop
 step-requires c κs =
-    let s = c.before.before.before.before.before.before.before.before.before.before in
-    (s.requires.0, (chased_labels _ _ c.before.before.before.before.before.before.before.before.loop.invariant.1.0, omega (arith, c.before.before.before.before.if-terms-x.false)))
+    let s = c in
+    (s.requires.0, (chased_labels _ _ c.loop.invariant.1.0, omega (arith, c.if-terms-x.false)))
 
 same-length-3 : tie.Need-shape_of-parents-then-not-step invariant-loop decreases-loop
-same-length-3 c = c.before.before.before.before.step.auto.1.0 ∙ chased_long _ _ c.before.before.before.before.before.before.before.before.before.before.before.before.before.loop.invariant.1.0
+same-length-3 c = c.step.auto.1.0 ∙ chased_long _ _ c.loop.invariant.1.0
 
 same-length-4 : tie.Need-shape_of-offsets-then-not-step invariant-loop decreases-loop
-same-length-4 c = c.before.before.before.before.step.auto.1.1.0 ∙ c.before.before.before.before.before.before.before.before.before.before.before.before.before.loop.invariant.1.1
+same-length-4 c = c.step.auto.1.1.0 ∙ c.loop.invariant.1.1
 
 returns-2 : tie.Need-returns-then-not-step invariant-loop decreases-loop
-returns-2 c = chased_then _ _ c.before.before.before.before.before.before.before.before.before.before.before.before.before.loop.invariant.1.0 (rw (not-true c.before.before.before.before.step.result c.if-not-step.true) at c.before.before.before.before.step.ensures)
+returns-2 c = chased_then _ _ c.loop.invariant.1.0 (rw (c.if-not-step.true) at c.step.ensures)
 
 add-counter : tie.Need-overflow_step invariant-loop decreases-loop
-add-counter c = omega (arith, c.before.before.before.before.before.before.before.before.before.before.before.before.loop-test.true)
+add-counter c = omega (arith, c.loop-test.true)
 
 loop-less : tie.Need-loop-smaller invariant-loop decreases-loop
-loop-less c = omega (arith, c.before.before.before.before.before.before.before.before.before.before.before.before.loop-test.true)
+loop-less c = omega (arith, c.loop-test.true)
 
 loop-again : tie.Need-loop-preserved invariant-loop decreases-loop
 loop-again c = (
-  omega (arith, c.before.before.before.before.before.before.before.before.before.before.before.before.loop-test.true),
+  omega (arith, c.loop-test.true),
   (
-    chased_then _ _ c.before.before.before.before.before.before.before.before.before.before.before.before.before.loop.invariant.1.0 (rw (not-false c.before.before.before.before.step.result c.if-not-step.false) at c.before.before.before.before.step.ensures),
-    c.before.before.before.before.step.auto.1.1.0 ∙ c.before.before.before.before.before.before.before.before.before.before.before.before.before.loop.invariant.1.1,
+    chased_then _ _ c.loop.invariant.1.0 (rw (c.if-not-step.false) at c.step.ensures),
+    c.step.auto.1.1.0 ∙ c.loop.invariant.1.1,
   ),
 )
 
 same-length-5 : tie.Need-shape_of-parents invariant-loop decreases-loop
-same-length-5 c = chased_long _ _ c.before.loop.invariant.1.0
+same-length-5 c = chased_long _ _ c.loop.invariant.1.0
 
 same-length-6 : tie.Need-shape_of-offsets invariant-loop decreases-loop
-same-length-6 c = c.before.loop.invariant.1.1
+same-length-6 c = c.loop.invariant.1.1
 
 returns-3 : tie.Need-returns invariant-loop decreases-loop
-returns-3 c = c.before.loop.invariant.1.0
+returns-3 c = c.loop.invariant.1.0
 
 pub chase_spec : {M : Type 1} → statement M
 chase_spec =

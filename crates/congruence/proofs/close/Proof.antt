@@ -10,24 +10,24 @@ use Rattle.congruence.proofs.close.Tie as tie
 
 returns : tie.Need-returns-then-not-propagate
 returns c =
-    let p = c.before.before.before.before in
-    let s = p.before.before.before.before in
-    chased_clash (length s.args.terms.now) (term_in s.args.terms.now) (rw (not-true p.propagate.result c.if-not-propagate.true) at p.propagate.ensures)
+    let p = c in
+    let s = p in
+    chased_clash (length s.args.terms.now) (term_in s.args.terms.now) (rw (c.if-not-propagate.true) at p.propagate.ensures)
 
 settle-requires : tie.Need-settle-requires
 settle-requires c κs =
-    let t = c.before.before in
-    let p = t.before.before.before.before in
-    let s = p.before.before.before.before in
-    (s.requires.0, chased_labels (length s.args.terms.now) (term_in s.args.terms.now) (rw (not-false p.propagate.result t.if-not-propagate.false) at p.propagate.ensures))
+    let t = c in
+    let p = t in
+    let s = p in
+    (s.requires.0, chased_labels (length s.args.terms.now) (term_in s.args.terms.now) (rw (t.if-not-propagate.false) at p.propagate.ensures))
 
 returns-2 : tie.Need-returns
 returns-2 c =
-    let settled = c.before.before.before in
-    let t = settled.before.before.before in
-    let p = t.before.before.before.before in
-    let s = p.before.before.before.before in
-    closing_then (length s.args.terms.now) (term_in s.args.terms.now) (rw (not-false p.propagate.result t.if-not-propagate.false) at p.propagate.ensures) settled.settle.ensures
+    let settled = c in
+    let t = settled in
+    let p = t in
+    let s = p in
+    closing_then (length s.args.terms.now) (term_in s.args.terms.now) (rw (t.if-not-propagate.false) at p.propagate.ensures) settled.settle.ensures
 
 pub close_spec : {M : Type 1} → statement M
 close_spec =

@@ -7,7 +7,7 @@ use Rattle.congruence.proofs.propagate.Statement.{statement}
 use Rattle.congruence.proofs.propagate.Tie as tie
 
 returns : tie.Need-returns-then-not-any_dereference
-returns c = let s = c.before.before.before.args in chased_start (length s.terms.now) (term_in s.terms.now) c.before.before.before.requires.1
+returns c = let s = c.args in chased_start (length s.terms.now) (term_in s.terms.now) c.requires.1
 
 pub propagate_spec : {M : Type 1} → statement M
 propagate_spec =

@@ -9,31 +9,31 @@ use Rattle.consistency.proofs.is_consistent.Statement.{statement}
 use Rattle.consistency.proofs.is_consistent.Tie as tie
 
 reset-requires : tie.Need-reset-requires
-reset-requires c κs = let s = c.before.before.before.before in (s.requires.1.1 ∙ sym s.requires.1.0, rw s.requires.1.0 s.requires.0.0.few_terms)
+reset-requires c κs = let s = c in (s.requires.1.1 ∙ sym s.requires.1.0, rw s.requires.1.0 s.requires.0.0.few_terms)
 
 join-equalities-requires : tie.Need-join_equalities-requires
-join-equalities-requires c κs = let s = c.before.before.before.before.before.before.before.before.before.before in let S = set_of s.args.terms.now s.args.propositions.now in let m = s.args.marks.now in let good = s.requires.0.0 in let r = c.before.before.before.before.before.reset.ensures in ((good, fresh_live S m good r.links (r.long ∙ s.requires.1.0) r.fresh), s.requires.0.1)
+join-equalities-requires c κs = let s = c in let S = set_of s.args.terms.now s.args.propositions.now in let m = s.args.marks.now in let good = s.requires.0.0 in let r = c.reset.ensures in ((good, fresh_live S m good r.links (r.long ∙ s.requires.1.0) r.fresh), s.requires.0.1)
 
 returns : tie.Need-returns-then-not-join_equalities
-returns c = let s = c.before.before.before.before.before.before.before.before.before.before.before.before.before.before.before in let S = set_of s.args.terms.now s.args.propositions.now in let m = s.args.marks.now in let good = s.requires.0.0 in contradictory (equalities_off S m good (rw (not-true c.before.before.before.before.join_equalities.result c.if-not-join_equalities.true) at c.before.before.before.before.join_equalities.ensures))
+returns c = let s = c in let S = set_of s.args.terms.now s.args.propositions.now in let m = s.args.marks.now in let good = s.requires.0.0 in contradictory (equalities_off S m good (rw (c.if-not-join_equalities.true) at c.join_equalities.ensures))
 
 close-requires : tie.Need-close-requires
-close-requires c κs = let s = c.before.before.before.before.before.before.before.before.before.before.before.before.before.before.before.before.before in let S = set_of s.args.terms.now s.args.propositions.now in let m = s.args.marks.now in let good = s.requires.0.0 in let e = rw (not-false c.before.before.before.before.before.before.join_equalities.result c.before.before.if-not-join_equalities.false) at c.before.before.before.before.before.before.join_equalities.ensures in (good.terms, live_labels S m good (equalities_live S m good e))
+close-requires c κs = let s = c in let S = set_of s.args.terms.now s.args.propositions.now in let m = s.args.marks.now in let good = s.requires.0.0 in let e = rw (c.if-not-join_equalities.false) at c.join_equalities.ensures in (good.terms, live_labels S m good (equalities_live S m good e))
 
 returns-2 : tie.Need-returns-then-not-close
-returns-2 c = let s = c.before.before.before.before.before.before.before.before.before.before.before.before.before.before.before.before.before.before.before.before.before.before in let S = set_of s.args.terms.now s.args.propositions.now in let m = s.args.marks.now in let good = s.requires.0.0 in let e = rw (not-false c.before.before.before.before.before.before.before.before.before.before.before.join_equalities.result c.before.before.before.before.before.before.before.if-not-join_equalities.false) at c.before.before.before.before.before.before.before.before.before.before.before.join_equalities.ensures in contradictory (closing_off S m good e (rw (not-true c.before.before.before.before.close.result c.if-not-close.true) at c.before.before.before.before.close.ensures))
+returns-2 c = let s = c in let S = set_of s.args.terms.now s.args.propositions.now in let m = s.args.marks.now in let good = s.requires.0.0 in let e = rw (c.if-not-join_equalities.false) at c.join_equalities.ensures in contradictory (closing_off S m good e (rw (c.if-not-close.true) at c.close.ensures))
 
 any-refuted-requires : tie.Need-any_refuted-requires
-any-refuted-requires c κs = let s = c.before.before.before.before.before.before.before.before.before.before.before.before.before.before.before.before.before.before.before.before.before.before.before.before in let S = set_of s.args.terms.now s.args.propositions.now in let m = s.args.marks.now in let good = s.requires.0.0 in let e = rw (not-false c.before.before.before.before.before.before.before.before.before.before.before.before.before.join-equalities.result c.before.before.before.before.before.before.before.before.before.if1.false) at c.before.before.before.before.before.before.before.before.before.before.before.before.before.join-equalities.ensures in let k = rw (not-false c.before.before.before.before.before.before.close.result c.before.before.if2.false) at c.before.before.before.before.before.before.close.ensures in let f = closing_on S m good e k in let d = closing_columns S.terms S.term k in ((rw f.reps_count good.propositions, d), s.requires.0.1)
+any-refuted-requires c κs = let s = c in let S = set_of s.args.terms.now s.args.propositions.now in let m = s.args.marks.now in let good = s.requires.0.0 in let e = rw (c.if-not-join_equalities.false) at c.join_equalities.ensures in let k = rw (c.if-not-close.false) at c.close.ensures in let f = closing_on S m good e k in let d = closing_columns S.terms S.term k in ((rw f.reps_count good.propositions, d), s.requires.0.1)
 
 returns-3 : tie.Need-returns-then-any_refuted
-returns-3 c = let s = c.before.before.before.before.before.before.before.before.before.before.before.before.before.before.before.before.before.before.before.before.before.before.before.before.before.before in let S = set_of s.args.terms.now s.args.propositions.now in let m = s.args.marks.now in let good = s.requires.0.0 in let e = rw (not-false c.before.before.before.before.before.before.before.before.before.before.before.before.before.before.before.join-equalities.result c.before.before.before.before.before.before.before.before.before.before.before.if1.false) at c.before.before.before.before.before.before.before.before.before.before.before.before.before.before.before.join-equalities.ensures in let k = rw (not-false c.before.before.before.before.before.before.before.before.close.result c.before.before.before.before.if2.false) at c.before.before.before.before.before.before.before.before.close.ensures in let f = closing_on S m good e k in let d = closing_columns S.terms S.term k in contradictory (refuted_fails S m good f.live (rw c.if-any_refuted.true at c.before.any_refuted.ensures))
+returns-3 c = let s = c in let S = set_of s.args.terms.now s.args.propositions.now in let m = s.args.marks.now in let good = s.requires.0.0 in let e = rw (c.if-not-join_equalities.false) at c.join_equalities.ensures in let k = rw (c.if-not-close.false) at c.close.ensures in let f = closing_on S m good e k in let d = closing_columns S.terms S.term k in contradictory (refuted_fails S m good f.live (rw c.if-any_refuted.true at c.any_refuted.ensures))
 
 variables-meet-requires : tie.Need-variables_meet-requires
-variables-meet-requires c κs = let s = c.before.before.before.before.before.before.before.before.before.before.before.before.before.before.before.before.before.before.before.before.before.before.before.before.before.before.before in let S = set_of s.args.terms.now s.args.propositions.now in let m = s.args.marks.now in let good = s.requires.0.0 in let e = rw (not-false c.before.before.before.before.before.before.before.before.before.before.before.before.before.before.before.before.join-equalities.result c.before.before.before.before.before.before.before.before.before.before.before.before.if1.false) at c.before.before.before.before.before.before.before.before.before.before.before.before.before.before.before.before.join-equalities.ensures in let k = rw (not-false c.before.before.before.before.before.before.before.before.before.close.result c.before.before.before.before.before.if2.false) at c.before.before.before.before.before.before.before.before.before.close.ensures in let f = closing_on S m good e k in let d = closing_columns S.terms S.term k in ((good.few_terms, f.reps_count), d.below)
+variables-meet-requires c κs = let s = c in let S = set_of s.args.terms.now s.args.propositions.now in let m = s.args.marks.now in let good = s.requires.0.0 in let e = rw (c.if-not-join_equalities.false) at c.join_equalities.ensures in let k = rw (c.if-not-close.false) at c.close.ensures in let f = closing_on S m good e k in let d = closing_columns S.terms S.term k in ((good.few_terms, f.reps_count), d.below)
 
 returns-4 : tie.Need-returns
-returns-4 c = let s = c.before.before.before.before.before.before.before.before.before.before.before.before.before.before.before.before.before.before.before.before.before.before.before.before.before.before.before.before in let S = set_of s.args.terms.now s.args.propositions.now in let m = s.args.marks.now in let good = s.requires.0.0 in let e = rw (not-false c.before.before.before.before.before.before.before.before.before.before.before.before.before.before.before.before.before.join-equalities.result c.before.before.before.before.before.before.before.before.before.before.before.before.before.if1.false) at c.before.before.before.before.before.before.before.before.before.before.before.before.before.before.before.before.before.join-equalities.ensures in let k = rw (not-false c.before.before.before.before.before.before.before.before.before.before.close.result c.before.before.before.before.before.before.if2.false) at c.before.before.before.before.before.before.before.before.before.before.close.ensures in let f = closing_on S m good e k in let d = closing_columns S.terms S.term k in decided S m good f (rw c.before.before.if3.false at c.before.before.before.any-refuted.ensures) c.variables_meet.result c.variables_meet.ensures
+returns-4 c = let s = c in let S = set_of s.args.terms.now s.args.propositions.now in let m = s.args.marks.now in let good = s.requires.0.0 in let e = rw (c.if-not-join_equalities.false) at c.join_equalities.ensures in let k = rw (c.if-not-close.false) at c.close.ensures in let f = closing_on S m good e k in let d = closing_columns S.terms S.term k in decided S m good f (rw c.if-any_refuted.false at c.any_refuted.ensures) c.variables_meet.result c.variables_meet.ensures
 
 pub is_consistent_spec : {M : Type 1} → statement M
 is_consistent_spec =

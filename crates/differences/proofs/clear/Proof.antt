@@ -14,9 +14,9 @@ abbrev decreases-loop : tie.decreases-loop-k
 decreases-loop table₀ k₀ k-end table k = length table₀ - k
 
 returns : tie.Need-returns invariant-loop decreases-loop
-returns c = let i = c.before.loop-k.invariant in
-    let e : c.before.loop-k.k ≡ length c.before.before.args.table.now = omega (arith, c.loop-k-test.false, i.0) in
-    filled_all {A = ℕ} (λ _. 0) 0 (rw e at i.1) ∙ tabulate_value {A = ℕ} 0 0 (length c.before.before.args.table.now)
+returns c = let i = c.loop-k.invariant in
+    let e : c.loop-k.k ≡ length c.args.table.now = omega (arith, c.loop-k-test.false, i.0) in
+    filled_all {A = ℕ} (λ _. 0) 0 (rw e at i.1) ∙ tabulate_value {A = ℕ} 0 0 (length c.args.table.now)
 
 pub clear_spec : {M : Type 1} → statement M
 clear_spec =
@@ -25,9 +25,9 @@ clear_spec =
     invariant-loop
     decreases-loop
     (λ c. (omega arith, filled_none _ 0 refl))
-    (λ c. omega (arith, c.before.loop-k.invariant.1.long, c.loop-k-test.true))
+    (λ c. omega (arith, c.loop-k.invariant.1.long, c.loop-k-test.true))
     (λ c. omega arith)
     (λ c. omega arith)
-    (λ c. (omega (arith, c.loop-k-test.true), filled_more _ 0 c.before.loop-k.invariant.1 (omega (arith, c.loop-k-test.true)) refl))
-    (λ c. c.before.loop-k.invariant.1.long)
+    (λ c. (omega (arith, c.loop-k-test.true), filled_more _ 0 c.loop-k.invariant.1 (omega (arith, c.loop-k-test.true)) refl))
+    (λ c. c.loop-k.invariant.1.long)
     returns)

@@ -7,13 +7,13 @@ use Rattle.differences.proofs.fill_table.Statement.{statement}
 use Rattle.differences.proofs.fill_table.Tie as tie
 
 note-readers-requires : tie.Need-note_readers-requires
-note-readers-requires c κs = c.before.before.before.before.before.before.before.before.before.before.before.before.before.before.before.before.before.before.before.before.requires.1.0.leads_are.long
+note-readers-requires c κs = c.requires.1.0.leads_are.long
 
 mark-base-requires : tie.Need-mark_base-requires
-mark-base-requires c κs = let p = c.before.before.before.before.before.before.before.before.before.before.before.before.before.before.before.before.before.before.before.before.before.before.before.requires in ((p.1.1, points_unique p.1.0.homes_are p.1.0.points_are), (p.0.0.sides, (p.0.0.apart_room, p.0.1)))
+mark-base-requires c κs = let p = c.requires in ((p.1.1, points_unique p.1.0.homes_are p.1.0.points_are), (p.0.0.sides, (p.0.0.apart_room, p.0.1)))
 
 settle-requires : tie.Need-settle-requires
-settle-requires c κs = let s = c.before.before.before.before.before.before.before.before.before.before.before.before.before.before.before.before.before.before.before.before.before.before.before.before.before.before.before.before in
+settle-requires c κs = let s = c in
     let p = s.requires in
     let G = p.0.0 in
     let H = p.1.0.homes_are in
@@ -26,8 +26,8 @@ settle-requires c κs = let s = c.before.before.before.before.before.before.befo
           (
             G.apart_room,
             (
-              room_based s.args.n s.args.m s.args.points.now s.args.heights.now s.args.left-classes.now s.args.left-heights.now s.args.right-classes.now s.args.right-heights.now s.args.apart.now s.args.pairs.now c.before.before.before.before.mark_base.ensures p.0.1,
-              base_uniform s.args.n s.args.m s.args.points.now s.args.heights.now s.args.left-classes.now s.args.left-heights.now s.args.right-classes.now s.args.right-heights.now s.args.apart.now c.before.before.before.before.mark_base.ensures,
+              room_based s.args.n s.args.m s.args.points.now s.args.heights.now s.args.left-classes.now s.args.left-heights.now s.args.right-classes.now s.args.right-heights.now s.args.apart.now s.args.pairs.now c.mark_base.ensures p.0.1,
+              base_uniform s.args.n s.args.m s.args.points.now s.args.heights.now s.args.left-classes.now s.args.left-heights.now s.args.right-classes.now s.args.right-heights.now s.args.apart.now c.mark_base.ensures,
             ),
           ),
         ),
@@ -35,29 +35,29 @@ settle-requires c κs = let s = c.before.before.before.before.before.before.befo
     )
 
 expand-requires : tie.Need-expand-requires
-expand-requires c κs = let s = c.before.before.before.before.before.before.before.before.before.before.before.before.before.before.before.before.before.before.before.before.before.before.before.before.before.before.before.before.before.before.before.before in
+expand-requires c κs = let s = c in
     let p = s.requires in (
       (p.0.0.terms, p.1.0.homes_are),
       (
         class_set s.args.n s.args.m s.args.classes.now s.args.heights.now s.args.homes.now s.args.points.now s.args.reads.now s.args.read-heights.now s.args.leads.now s.args.left-classes.now s.args.left-heights.now s.args.right-classes.now s.args.right-heights.now s.args.apart.now
-            p.0.0.terms p.0.0.sides p.1.0.homes_are p.1.0.points_are p.1.0.leads_are c.before.before.before.before.before.before.before.before.mark_base.ensures c.before.before.before.settle.ensures,
+            p.0.0.terms p.0.0.sides p.1.0.homes_are p.1.0.points_are p.1.0.leads_are c.mark_base.ensures c.settle.ensures,
         (
           home_columns s.args.n s.args.m s.args.classes.now s.args.heights.now s.args.homes.now s.args.points.now s.args.reads.now s.args.read-heights.now s.args.leads.now s.args.left-classes.now s.args.left-heights.now s.args.right-classes.now s.args.right-heights.now s.args.apart.now
-              p.0.0.terms p.0.0.sides p.1.0.homes_are p.1.0.points_are p.1.0.leads_are c.before.before.before.before.before.before.before.before.mark_base.ensures c.before.before.before.settle.ensures,
+              p.0.0.terms p.0.0.sides p.1.0.homes_are p.1.0.points_are p.1.0.leads_are c.mark_base.ensures c.settle.ensures,
           omega (
             arith,
-            c.before.before.before.settle.ensures.grows.long,
-            room_based s.args.n s.args.m s.args.points.now s.args.heights.now s.args.left-classes.now s.args.left-heights.now s.args.right-classes.now s.args.right-heights.now s.args.apart.now s.args.pairs.now c.before.before.before.before.before.before.before.before.mark_base.ensures p.0.1,
+            c.settle.ensures.grows.long,
+            room_based s.args.n s.args.m s.args.points.now s.args.heights.now s.args.left-classes.now s.args.left-heights.now s.args.right-classes.now s.args.right-heights.now s.args.apart.now s.args.pairs.now c.mark_base.ensures p.0.1,
           ),
         ),
       ),
     )
 
 returns : tie.Need-returns
-returns c = let s = c.before.before.before.before.before.before.before.before.before.before.before.before.before.before.before.before.before.before.before.before.before.before.before.before.before.before.before.before.before.before.before.before.before.before.before.args in
-    let p = c.before.before.before.before.before.before.before.before.before.before.before.before.before.before.before.before.before.before.before.before.before.before.before.before.before.before.before.before.before.before.before.before.before.before.before.requires in
+returns c = let s = c.args in
+    let p = c.requires in
     table_told s.n s.m s.classes.now s.heights.now s.homes.now s.points.now s.reads.now s.read-heights.now s.leads.now s.left-classes.now s.left-heights.now s.right-classes.now s.right-heights.now s.apart.now
-    p.0.0.terms p.0.0.sides p.1.0.homes_are p.1.0.points_are p.1.0.leads_are c.before.before.before.before.before.before.before.before.before.before.before.mark_base.ensures c.before.before.before.before.before.before.settle.ensures c.before.before.expand.ensures
+    p.0.0.terms p.0.0.sides p.1.0.homes_are p.1.0.points_are p.1.0.leads_are c.mark_base.ensures c.settle.ensures c.expand.ensures
 
 pub fill_table_spec : {M : Type 1} → statement M
 fill_table_spec =

@@ -12,7 +12,7 @@ abbrev decreases-loop : tie.decreases-loop-k
 decreases-loop count leads homes notes₀ k₀ notes k = count - k
 
 linked-requires : tie.Need-linked-x-requires invariant-loop decreases-loop
-linked-requires c κs = omega (arith, c.before.before.before.before.requires, c.loop-k-test.true)
+linked-requires c κs = omega (arith, c.requires, c.loop-k-test.true)
 
 pub note_readers_spec : {M : Type 1} → statement M
 note_readers_spec =

@@ -4,7 +4,7 @@ use Rattle.distances.proofs.is_before.Statement.{statement}
 use Rattle.distances.proofs.is_before.Tie as tie
 
 returns : tie.Need-returns
-returns c = rw (c.before.before.linked-low.ensures, c.linked-high.ensures, c.before.before.before.index.ensures, c.before.index-2.ensures) refl
+returns c = rw (c.linked-low.ensures, c.linked-high.ensures, c.index.ensures, c.index-2.ensures) refl
 
 pub is_before_spec : {M : Type 1} → statement M
 is_before_spec =

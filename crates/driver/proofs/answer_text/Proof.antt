@@ -8,25 +8,25 @@ use Rattle.driver.proofs.answer_text.Statement.{statement}
 use Rattle.driver.proofs.answer_text.Tie as tie
 
 put-refusal-requires : tie.Need-put_refusal-requires
-put-refusal-requires c κs = omega (arith, refusal_size c.before.before.fault-1.given.0.0, c.before.before.before.before.before.before.before.before.before.before.before.before.before.requires)
+put-refusal-requires c κs = omega (arith, refusal_size c.in-Refused.fault, c.requires)
 
 answer-set-requires : tie.Need-answer_set-requires
 answer-set-requires c κs =
-    let s = c.before.before.before.before.before.before.before.before.before.before.before.before.before.before.before.before in
-    let k = c.before.before.before.before.before.before.before.before.before.before.read in
-    (accepted_tables s.args.text.now _ k.result _ k.ensures _ c.before.before.before.before.before.counts-1.given.1, s.requires)
+    let s = c in
+    let k = c.read in
+    (accepted_tables s.args.text.now _ k.result _ k.ensures _ c.in-Accepted.is, s.requires)
 
 returns : tie.Need-returns-in-Refused
 returns c =
-    let s = c.before.before.before.before.before.before.before.before.before.before.before.before.before.before.before.before in
-    let k = c.before.before.before.before.before.before.before.before.before.before.read in
-    rw (refused_frames s.args.text.now _ k.result _ k.ensures refl _ c.before.before.before.before.before.fault-1.given.1) c.before.before.put_refusal.ensures
+    let s = c in
+    let k = c.read in
+    rw (refused_frames s.args.text.now _ k.result _ k.ensures refl _ c.in-Refused.is) c.put_refusal.ensures
 
 returns-2 : tie.Need-returns-in-Accepted
 returns-2 c =
-    let s = c.before.before.before.before.before.before.before.before.before.before.before.before.before.before.before.before.before.before.before in
-    let k = c.before.before.before.before.before.before.before.before.before.before.before.before.before.read in
-    rw (accepted_frames s.args.text.now _ k.result _ k.ensures _ c.before.before.before.before.before.before.before.before.counts-1.given.1) c.before.before.answer_set.ensures
+    let s = c in
+    let k = c.read in
+    rw (accepted_frames s.args.text.now _ k.result _ k.ensures _ c.in-Accepted.is) c.answer_set.ensures
 
 pub answer_text_spec : {M : Type 1} → statement M
 answer_text_spec =

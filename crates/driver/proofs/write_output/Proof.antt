@@ -11,12 +11,12 @@ returns : tie.Need-returns-then-out-lt-LARGEST
 returns c = writes_nothing _ _ (omega (arith, c.if-out-lt-LARGEST.true))
 
 returns-2 : tie.Need-returns-then-text-lt-JUDGED
-returns-2 c = let s = c.before.before.before.before.before.before.before.before in
-    writes_all s.args.text.now s.args.out.now (omega (arith, c.before.before.before.before.before.if-out-lt-LARGEST.false)) s.args.text.now (sym (take_all 32768 s.args.text.now (omega (arith, c.before.before.before.before.if-text-lt-JUDGED.true)))) _ _ c.before.before.answer_text.ensures
+returns-2 c = let s = c in
+    writes_all s.args.text.now s.args.out.now (omega (arith, c.if-out-lt-LARGEST.false)) s.args.text.now (sym (take_all 32768 s.args.text.now (omega (arith, c.if-text-lt-JUDGED.true)))) _ _ c.answer_text.ensures
 
 returns-3 : tie.Need-returns
-returns-3 c = let s = c.before.before.before.before.before.before.before.before.before in
-    writes_all s.args.text.now s.args.out.now (omega (arith, c.before.before.before.before.before.before.if-out-lt-LARGEST.false)) _ refl _ _ c.before.before.answer_text-2.ensures
+returns-3 c = let s = c in
+    writes_all s.args.text.now s.args.out.now (omega (arith, c.if-out-lt-LARGEST.false)) _ refl _ _ c.answer_text-2.ensures
 
 pub write_output_spec : {M : Type 1} → statement M
 write_output_spec =

@@ -15,13 +15,13 @@ abbrev decreases-loop : tie.decreases-loop-t
 decreases-loop n homes t₀ t = n - t
 
 loop-holds : tie.Need-loop-t-init invariant-loop decreases-loop
-loop-holds c = (omega arith, own_none c.before.args.homes.now)
+loop-holds c = (omega arith, own_none c.args.homes.now)
 
 loop-again : tie.Need-loop-t-preserved invariant-loop decreases-loop
-loop-again c = (omega (arith, c.before.before.before.loop-t-test.true), own_more (omega (arith, c.if-index-t.false, c.before.index.ensures)) c.before.before.before.before.loop-t.invariant.1)
+loop-again c = (omega (arith, c.loop-t-test.true), own_more (omega (arith, c.if-index-t.false, c.index.ensures)) c.loop-t.invariant.1)
 
 returns-2 : tie.Need-returns invariant-loop decreases-loop
-returns-2 c e = let i = c.before.loop-t.invariant in record { own = λ t h. i.1.own t (omega (arith, c.loop-t-test.false)) }
+returns-2 c e = let i = c.loop-t.invariant in record { own = λ t h. i.1.own t (omega (arith, c.loop-t-test.false)) }
 
 pub all_own_spec : {M : Type 1} → statement M
 all_own_spec =
@@ -31,7 +31,7 @@ all_own_spec =
     decreases-loop
     loop-holds
     (λ c. search rules)
-    (λ c. omega (arith, c.before.loop-t-test.true, c.before.before.before.before.requires))
+    (λ c. omega (arith, c.loop-t-test.true, c.requires))
     (λ c κs. search rules)
     (λ c e. false_true refl e)
     (λ c. omega arith)

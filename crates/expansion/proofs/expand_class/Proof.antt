@@ -8,19 +8,19 @@ slice-aggregate-own-homes : tie.Need-slice_bounds-own_homes-end
 slice-aggregate-own-homes c = search rules
 
 own-homes-requires : tie.Need-own_homes-requires
-own-homes-requires c κs = let s = c.before.before.before.before.before.before.before.before.before in let a = s.args in let p = s.requires.0 in let q = s.requires.1.0 in let t = s.requires.1.1 in (q.1.0, (p.0, (q.0, refl)))
+own-homes-requires c κs = let s = c in let a = s.args in let p = s.requires.0 in let q = s.requires.1.0 in let t = s.requires.1.1 in (q.1.0, (p.0, (q.0, refl)))
 
 slice-aggregate-expand-members : tie.Need-slice_bounds-expand_members-end
 slice-aggregate-expand-members c = search rules
 
 expand-members-requires : tie.Need-expand_members-requires
-expand-members-requires c κs = let s = c.before.before.before.before.before.before.before.before.before.before.before.before.before in let a = s.args in let p = s.requires.0 in let q = s.requires.1.0 in let t = s.requires.1.1 in (p, ((q.0, (q.1.0, (c.before.before.before.own_homes.ensures, q.1.1))), t))
+expand-members-requires c κs = let s = c in let a = s.args in let p = s.requires.0 in let q = s.requires.1.0 in let t = s.requires.1.1 in (p, ((q.0, (q.1.0, (c.own_homes.ensures, q.1.1))), t))
 
 same_length : tie.Need-shape_of-table
 same_length c = search rules
 
 returns : tie.Need-returns
-returns c = c.before.before.expand_members.ensures
+returns c = c.expand_members.ensures
 
 pub expand_class_spec : {M : Type 1} → statement M
 expand_class_spec =

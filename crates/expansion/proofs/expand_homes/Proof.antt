@@ -13,25 +13,25 @@ abbrev decreases-loop : tie.decreases-loop-a
 decreases-loop n classes class-first class-next homes hosts first next table₀ a₀ table a = n - a
 
 loop-holds : tie.Need-loop-a-init invariant-loop decreases-loop
-loop-holds c = let s = c.before.before.before.before.before.before.before.before in let g = s.args in let p = s.requires.0 in let q = s.requires.1.0 in let t = s.requires.1.1 in classes_start g.n g.homes.now p.1.0 g.classes.now g.table.now
+loop-holds c = let s = c in let g = s.args in let p = s.requires.0 in let q = s.requires.1.0 in let t = s.requires.1.1 in classes_start g.n g.homes.now p.1.0 g.classes.now g.table.now
 
 expand-class-requires : tie.Need-expand_class-requires invariant-loop decreases-loop
-expand-class-requires c κs = let s = c.before.before.before.before.before.before.before.before.before.before.before in let g = s.args in let p = s.requires.0 in let q = s.requires.1.0 in let t = s.requires.1.1 in let L = c.before.before.loop-a.invariant in (p, ((c.before.loop-a-test.true, (q.1.0, room_kept g.n L q.1.1)), (t.0, class_set_kept L.kept t.1)))
+expand-class-requires c κs = let s = c in let g = s.args in let p = s.requires.0 in let q = s.requires.1.0 in let t = s.requires.1.1 in let L = c.loop-a.invariant in (p, ((c.loop-a-test.true, (q.1.0, room_kept g.n L q.1.1)), (t.0, class_set_kept L.kept t.1)))
 
 add_a : tie.Need-overflow_step-a invariant-loop decreases-loop
-add_a c = let s = c.before.before.before.before.before.before.before.before.before.before.before.before.before.before in let g = s.args in let p = s.requires.0 in let q = s.requires.1.0 in let t = s.requires.1.1 in omega (arith, c.before.before.before.before.loop-a-test.true, p.0)
+add_a c = let s = c in let g = s.args in let p = s.requires.0 in let q = s.requires.1.0 in let t = s.requires.1.1 in omega (arith, c.loop-a-test.true, p.0)
 
 loop-less : tie.Need-loop-a-smaller invariant-loop decreases-loop
-loop-less c = omega (arith, c.before.before.before.before.loop-a-test.true)
+loop-less c = omega (arith, c.loop-a-test.true)
 
 loop-again : tie.Need-loop-a-preserved invariant-loop decreases-loop
-loop-again c = let s = c.before.before.before.before.before.before.before.before.before.before.before.before.before.before in let g = s.args in let p = s.requires.0 in let q = s.requires.1.0 in let t = s.requires.1.1 in classes_more g.n g.homes.now p.1.0 g.classes.now c.before.before.before.before.before.loop-a.a c.before.before.before.before.before.loop-a.invariant c.before.before.expand_class.ensures
+loop-again c = let s = c in let g = s.args in let p = s.requires.0 in let q = s.requires.1.0 in let t = s.requires.1.1 in classes_more g.n g.homes.now p.1.0 g.classes.now c.loop-a.a c.loop-a.invariant c.expand_class.ensures
 
 same_length : tie.Need-shape_of-table invariant-loop decreases-loop
-same_length c = c.before.loop-a.invariant.long
+same_length c = c.loop-a.invariant.long
 
 returns : tie.Need-returns invariant-loop decreases-loop
-returns c = let s = c.before.before.before.before.before.before.before.before.before.before in let g = s.args in let p = s.requires.0 in let q = s.requires.1.0 in let t = s.requires.1.1 in classes_done g.n g.homes.now p.1.0 g.classes.now c.before.loop-a.a q.0 c.loop-a-test.false c.before.loop-a.invariant
+returns c = let s = c in let g = s.args in let p = s.requires.0 in let q = s.requires.1.0 in let t = s.requires.1.1 in classes_done g.n g.homes.now p.1.0 g.classes.now c.loop-a.a q.0 c.loop-a-test.false c.loop-a.invariant
 
 pub expand_homes_spec : {M : Type 1} → statement M
 expand_homes_spec =

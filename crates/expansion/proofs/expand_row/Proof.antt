@@ -14,7 +14,7 @@ slice-aggregate-own-homes : tie.Need-slice_bounds-own_homes-end
 slice-aggregate-own-homes c = search rules
 
 own-homes-requires : tie.Need-own_homes-requires
-own-homes-requires c κs = let s = c.before.before.before.before.before.before.before.before in let a = s.args in let p = s.requires.0 in let q = s.requires.1.0 in let t = s.requires.1.1 in (p.1.1.1, (p.0, (q.0, refl)))
+own-homes-requires c κs = let s = c in let a = s.args in let p = s.requires.0 in let q = s.requires.1.0 in let t = s.requires.1.1 in (p.1.1.1, (p.0, (q.0, refl)))
 
 slice-aggregate-rest : tie.Need-slice_bounds-rest-end
 slice-aggregate-rest c = search rules
@@ -38,19 +38,19 @@ slice-aggregate-mark-masked : tie.Need-slice_bounds-mark_masked-end
 slice-aggregate-mark-masked c = search rules
 
 mark-masked-requires : tie.Need-mark_masked-requires
-mark-masked-requires c κs = let s = c.before.before.before.before.before.before.before.before.before.before.before.before.before.before.before.before.before.before.before.before in let a = s.args in let p = s.requires.0 in let q = s.requires.1.0 in let t = s.requires.1.1 in (rest_below (own_below q.1.1.0) c.before.before.before.before.before.before.before.rest.ensures, (record { few = p.0; left = q.0; right = q.0 }, q.1.1.1))
+mark-masked-requires c κs = let s = c in let a = s.args in let p = s.requires.0 in let q = s.requires.1.0 in let t = s.requires.1.1 in (rest_below (own_below q.1.1.0) c.rest.ensures, (record { few = p.0; left = q.0; right = q.0 }, q.1.1.1))
 
 slice-aggregate-expand-others : tie.Need-slice_bounds-expand_others-end
 slice-aggregate-expand-others c = search rules
 
 expand-others-requires : tie.Need-expand_others-requires
-expand-others-requires c κs = let s = c.before.before.before.before.before.before.before.before.before.before.before.before.before.before.before.before.before.before.before.before.before.before.before.before.before in let a = s.args in let p = s.requires.0 in let q = s.requires.1.0 in let t = s.requires.1.1 in let m = c.before.before.before.before.mark_masked.ensures in ((p.0, (p.1.0, (class_covered a.n a.homes.now p.1.0 a.classes.now a.i.0 q.0 q.1.0 (reach_rest a.classes.now a.homes.now a.i.0 p.0 q.1.1.0 c.before.before.before.before.before.before.before.before.before.before.before.before.before.before.before.before.own_homes.ensures c.before.before.before.before.before.before.before.before.before.before.before.before.rest.ensures) p.0 t.0 p.1.1.0 c.before.before.before.before.before.before.before.before.rest-2.ensures m, p.1.1.1))), (q.0, (q.1.0, room_kept a.n m q.1.1.1)))
+expand-others-requires c κs = let s = c in let a = s.args in let p = s.requires.0 in let q = s.requires.1.0 in let t = s.requires.1.1 in let m = c.mark_masked.ensures in ((p.0, (p.1.0, (class_covered a.n a.homes.now p.1.0 a.classes.now a.i.0 q.0 q.1.0 (reach_rest a.classes.now a.homes.now a.i.0 p.0 q.1.1.0 c.own_homes.ensures c.rest.ensures) p.0 t.0 p.1.1.0 c.rest-2.ensures m, p.1.1.1))), (q.0, (q.1.0, room_kept a.n m q.1.1.1)))
 
 same_length : tie.Need-shape_of-table
 same_length c = search rules
 
 returns : tie.Need-returns
-returns c = let s = c.before.before.before.before.before.before.before.before.before.before.before.before.before.before.before.before.before.before.before.before.before.before.before.before.before.before.before.before in let a = s.args in let p = s.requires.0 in let q = s.requires.1.0 in let t = s.requires.1.1 in row_expanded a.n a.homes.now p.1.0 a.classes.now a.i.0 q.0 q.1.0 (reach_rest a.classes.now a.homes.now a.i.0 p.0 q.1.1.0 c.before.before.before.before.before.before.before.before.before.before.before.before.before.before.before.before.before.before.before.own_homes.ensures c.before.before.before.before.before.before.before.before.before.before.before.before.before.before.before.rest.ensures) (class_expanded a.n a.homes.now p.1.0 a.classes.now a.i.0 q.0 q.1.0 (reach_rest a.classes.now a.homes.now a.i.0 p.0 q.1.1.0 c.before.before.before.before.before.before.before.before.before.before.before.before.before.before.before.before.before.before.before.own_homes.ensures c.before.before.before.before.before.before.before.before.before.before.before.before.before.before.before.rest.ensures) t.1 c.before.before.before.before.before.before.before.mark_masked.ensures) c.before.before.expand_others.ensures
+returns c = let s = c in let a = s.args in let p = s.requires.0 in let q = s.requires.1.0 in let t = s.requires.1.1 in row_expanded a.n a.homes.now p.1.0 a.classes.now a.i.0 q.0 q.1.0 (reach_rest a.classes.now a.homes.now a.i.0 p.0 q.1.1.0 c.own_homes.ensures c.rest.ensures) (class_expanded a.n a.homes.now p.1.0 a.classes.now a.i.0 q.0 q.1.0 (reach_rest a.classes.now a.homes.now a.i.0 p.0 q.1.1.0 c.own_homes.ensures c.rest.ensures) t.1 c.mark_masked.ensures) c.expand_others.ensures
 
 pub expand_row_spec : {M : Type 1} → statement M
 expand_row_spec =

@@ -13,12 +13,12 @@ abbrev decreases-loop : tie.decreases-loop-b
 decreases-loop n i w word homes first next table₀ end b₀ table b = 64 - b
 
 set-guests-requires : tie.Need-set_guests-requires invariant-loop decreases-loop
-set-guests-requires c κs = let s = c.before.before.before.before.before.before.before.before.before in
+set-guests-requires c κs = let s = c in
     let p = s.requires in
-    (record { few = p.0.few; left = p.0.left; right = omega (arith, c.before.loop-b-test.true, c.before.before.before.before.width-end.ensures.below) }, (p.1.1.0, room_kept s.args.n c.before.before.loop-b.invariant.done p.1.1.1))
+    (record { few = p.0.few; left = p.0.left; right = omega (arith, c.loop-b-test.true, c.width-end.ensures.below) }, (p.1.1.0, room_kept s.args.n c.loop-b.invariant.done p.1.1.1))
 
 loop-again : tie.Need-loop-b-preserved invariant-loop decreases-loop
-loop-again c = let a = c.before.before.before.before.before.before.before.before.before.before.before.before.before.args in word_next a.n a.homes.now (omega (arith, c.before.before.before.before.before.loop-b-test.true, c.before.before.before.before.before.before.before.before.width-end.ensures.few)) c.before.before.before.before.before.before.loop-b.invariant c.before.before.before.set_guests.ensures c.next_one-b-in-loop-b.ensures
+loop-again c = let a = c.args in word_next a.n a.homes.now (omega (arith, c.loop-b-test.true, c.width-end.ensures.few)) c.loop-b.invariant c.set_guests.ensures c.next_one-b-in-loop-b.ensures
 
 pub expand_word_spec : {M : Type 1} → statement M
 expand_word_spec =
@@ -26,15 +26,15 @@ expand_word_spec =
     (tie.spec
     invariant-loop
     decreases-loop
-    (λ c κs. c.before.before.before.before.requires.0.right)
+    (λ c κs. c.requires.0.right)
     (λ c κs. omega arith)
-    (λ c. let a = c.before.before.before.before.before.before.args in word_first a.n a.homes.now a.table.now c.next_one-b.ensures)
-    (λ c. omega (arith, c.before.before.before.before.before.before.before.before.requires.0.right, c.before.before.before.before.before.before.before.before.requires.0.few))
-    (λ c. omega (arith, c.before.before.before.before.before.before.before.before.requires.0.right, c.before.before.before.before.before.before.before.before.requires.0.few, c.loop-b-test.true, c.before.before.before.width-end.ensures.few))
+    (λ c. let a = c.args in word_first a.n a.homes.now a.table.now c.next_one-b.ensures)
+    (λ c. omega (arith, c.requires.0.right, c.requires.0.few))
+    (λ c. omega (arith, c.requires.0.right, c.requires.0.few, c.loop-b-test.true, c.width-end.ensures.few))
     set-guests-requires
-    (λ c. omega (arith, c.before.before.before.before.loop-b-test.true, c.before.before.before.before.before.before.before.width-end.ensures.few))
-    (λ c κs. omega (arith, c.before.before.before.before.loop-test.true, c.before.before.before.before.before.before.before.width.ensures.few))
-    (λ c. omega (arith, c.before.before.before.before.before.loop-b-test.true, c.before.before.before.before.before.before.before.before.width-end.ensures.few, c.next_one-b-in-loop-b.ensures.after))
+    (λ c. omega (arith, c.loop-b-test.true, c.width-end.ensures.few))
+    (λ c κs. omega (arith, c.loop-b-test.true, c.width-end.ensures.few))
+    (λ c. omega (arith, c.loop-b-test.true, c.width-end.ensures.few, c.next_one-b-in-loop-b.ensures.after))
     loop-again
-    (λ c. c.before.loop-b.invariant.done.long)
-    (λ c. let s = c.before.before.before.before.before.before.before.before in word_done s.args.n s.args.homes.now s.requires.1.0 c.before.before.before.width-end.ensures c.loop-b-test.false c.before.loop-b.invariant))
+    (λ c. c.loop-b.invariant.done.long)
+    (λ c. let s = c in word_done s.args.n s.args.homes.now s.requires.1.0 c.width-end.ensures c.loop-b-test.false c.loop-b.invariant))

@@ -11,16 +11,16 @@ use Rattle.expansion.proofs.row_word.Statement.{statement}
 use Rattle.expansion.proofs.row_word.Tie as tie
 
 mul-word-at : tie.Need-overflow_mul-h
-mul-word-at c = let s = c.before.before in omega (arith, product_small s.args.n s.args.h.0 s.requires.0 s.requires.1.0)
+mul-word-at c = let s = c in omega (arith, product_small s.args.n s.args.h.0 s.requires.0 s.requires.1.0)
 
 mul-word-at-2 : tie.Need-overflow_mul-w
 mul-word-at-2 c = search rules
 
 add-word-at : tie.Need-overflow_add-h
-add-word-at c = let s = c.before.before in omega (arith, product_small s.args.n s.args.h.0 s.requires.0 s.requires.1.0, s.requires.1.1, s.requires.0)
+add-word-at c = let s = c in omega (arith, product_small s.args.n s.args.h.0 s.requires.0 s.requires.1.0, s.requires.1.1, s.requires.0)
 
 word-at-requires : tie.Need-word_at-word-requires
-word-at-requires c κs = let s = c.before.before in omega (arith, product_small s.args.n s.args.h.0 s.requires.0 s.requires.1.0, s.requires.1.1, s.requires.0)
+word-at-requires c κs = let s = c in omega (arith, product_small s.args.n s.args.h.0 s.requires.0 s.requires.1.0, s.requires.1.1, s.requires.0)
 
 mul_left : tie.Need-overflow_mul-left
 mul_left c = search rules
@@ -29,20 +29,20 @@ sub-left : tie.Need-overflow_sub-left
 sub-left c = search rules
 
 returns : tie.Need-returns-then-left-ge64
-returns c = let a = c.before.before.before.before.args in whole_word a.n a.h.0 a.w c.before.word_at-word.ensures c.if-left-ge64.true
+returns c = let a = c.args in whole_word a.n a.h.0 a.w c.word_at-word.ensures c.if-left-ge64.true
 
 shl-result : tie.Need-overflow_shl-result
 shl-result c = search rules
 
 sub-result : tie.Need-overflow_sub-result
-sub-result c = let a = c.before.before.before.before.args in let h = c.if-left-ge64.false in omega (arith, shl_exact {a = 1} 1 (a.n - 64 * a.w) 64 (omega arith) (omega arith), pow_pos (a.n - 64 * a.w))
+sub-result c = let a = c.args in let h = c.if-left-ge64.false in omega (arith, shl_exact {a = 1} 1 (a.n - 64 * a.w) 64 (omega arith) (omega arith), pow_pos (a.n - 64 * a.w))
 
 returns-2 : tie.Need-returns
-returns-2 c = let a = c.before.before.before.before.args in
+returns-2 c = let a = c.args in
     let h = c.if-left-ge64.false in
     let k = a.n - 64 * a.w in
     let s : 1 * 2 ^ k % 2 ^ 64 ≡ 2 ^ k = shl_exact {a = 1} 1 k 64 (omega arith) (omega arith) ∙ one-mul (2 ^ k) in
-    rw s (last_word a.n a.h.0 a.w c.before.word_at-word.ensures (omega arith))
+    rw s (last_word a.n a.h.0 a.w c.word_at-word.ensures (omega arith))
 
 pub row_word_spec : {M : Type 1} → statement M
 row_word_spec =

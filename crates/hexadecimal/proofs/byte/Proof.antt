@@ -10,17 +10,17 @@ use Rattle.hexadecimal.proofs.byte.Tie as tie
 
 returns : tie.Need-returns-in_default
 returns c =
-    rw (spelled_bad (digit c.before.before.before.args.high) (sym c.before.before.digit.ensures ∙ c.enum_told-1.given.1))
+    rw (spelled_bad (digit c.args.high) (sym c.digit.ensures ∙ c.in_default.is))
 
 high_value : (c : tie.In-Value) → digit c.before.before.before.before.args.high ≡ some c.before.h.given.0.0
-high_value c = spelled_value _ _ (sym c.before.before.before.digit.ensures ∙ c.before.h-1.given.1)
+high_value c = spelled_value _ _ (sym c.digit.ensures ∙ c.in-Value.is)
 
 low_value : (c : tie.In-Value-digit) → digit c.before.before.before.before.before.before.before.before.args.low ≡ some c.before.l.given.0.0
-low_value c = spelled_value _ _ (sym c.before.before.before.digit-2.ensures ∙ c.before.l-1.given.1)
+low_value c = spelled_value _ _ (sym c.digit-2.ensures ∙ c.in-Value-digit.is)
 
 returns-2 : tie.Need-returns-in_default-digit
 returns-2 c =
-    let low = spelled_bad (digit c.before.before.before.before.before.before.before.args.low) (sym c.before.before.digit-2.ensures ∙ c.enum_told-in_default-digit-1.given.1) in
+    let low = spelled_bad (digit c.args.low) (sym c.digit-2.ensures ∙ c.in_default-digit.is) in
     rw (high_value c.before.before.before, low)
 
 mul-t7 : tie.Need-overflow_mul-result

@@ -17,28 +17,28 @@ abbrev decreases-loop : tie.decreases-loop-k
 decreases-loop line bytes₀ size k₀ bytes k = length line / 2 - k
 
 returns : tie.Need-returns-then-size-line invariant-loop decreases-loop
-returns c = let l = c.before.before.before.args.line.now in bytes_of_odd (length l / 2) l (omega arith)
+returns c = let l = c.args.line.now in bytes_of_odd (length l / 2) l (omega arith)
 
 loop-holds : tie.Need-loop-k-init invariant-loop decreases-loop
 loop-holds c = (omega arith, refl, prefixed_nil _)
 
 returns-2 : tie.Need-returns-in_default invariant-loop decreases-loop
 returns-2 c =
-    let l = c.before.before.before.before.before.before.loop-k in
-    decode_none _ l.bytes l.k l.invariant.2 (omega arith) (sym c.before.before.byte.ensures ∙ c.enum_told-1.given.1)
+    let l = c.loop-k in
+    decode_none _ l.bytes l.k l.invariant.2 (omega arith) (sym c.byte.ensures ∙ c.in_default.is)
 
 loop-again : tie.Need-loop-k-preserved invariant-loop decreases-loop
 loop-again c =
-    let l = c.before.before.before.before.before.before.before.loop-k in (
+    let l = c.loop-k in (
       omega arith,
       search rules,
-      decode_more _ l.bytes l.k l.invariant.2 (omega arith) _ (sym c.before.before.before.byte.ensures ∙ c.before.b-1.given.1) (omega arith),
+      decode_more _ l.bytes l.k l.invariant.2 (omega arith) _ (sym c.byte.ensures ∙ c.in-Value.is) (omega arith),
     )
 
 returns-3 : tie.Need-returns invariant-loop decreases-loop
 returns-3 c =
-    let l = c.before.loop-k in
-    let line = c.before.before.before.before.before.args.line.now in
+    let l = c.loop-k in
+    let line = c.args.line.now in
     let e : l.k ≡ length line / 2 = omega arith in
     rw e at (decode_all line l.bytes l.k l.invariant.2 (omega arith))
 

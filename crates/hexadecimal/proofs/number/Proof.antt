@@ -21,34 +21,34 @@ loop-holds c = (omega arith, refl, omega arith)
 
 mul-n : tie.Need-overflow_mul-n invariant-loop decreases-loop
 mul-n c =
-    let k = c.before.loop-k.k in
-    omega (arith, below_four (c.before.loop-k.n * 256 + 0) (k + 1) (more_below c.before.loop-k.n k 0 c.before.loop-k.invariant.2 (omega arith)) (omega arith))
+    let k = c.loop-k.k in
+    omega (arith, below_four (c.loop-k.n * 256 + 0) (k + 1) (more_below c.loop-k.n k 0 c.loop-k.invariant.2 (omega arith)) (omega arith))
 
 cast-n : tie.Need-overflow_cast-n invariant-loop decreases-loop
-cast-n c = omega (arith, c.shared_slice_known-1.given c.before.before.loop-k.k)
+cast-n c = omega (arith, c.shared_slice_known-1.given c.loop-k.k)
 
 add-n : tie.Need-overflow_add-n invariant-loop decreases-loop
 add-n c =
-    let k = c.before.before.loop-k.k in
-    let b = get_or c.before.before.before.args.bytes.now k 0 in
+    let k = c.loop-k.k in
+    let b = get_or c.args.bytes.now k 0 in
     let h = c.shared_slice_known-1.given k in
-    omega (arith, below_four (c.before.before.loop-k.n * 256 + b) (k + 1) (more_below c.before.before.loop-k.n k b c.before.before.loop-k.invariant.2 (omega arith)) (omega arith))
+    omega (arith, below_four (c.loop-k.n * 256 + b) (k + 1) (more_below c.loop-k.n k b c.loop-k.invariant.2 (omega arith)) (omega arith))
 
 loop-again : tie.Need-loop-k-preserved invariant-loop decreases-loop
 loop-again c =
-    let k = c.before.before.loop-k.k in
-    let bs = c.before.before.before.args.bytes.now in
+    let k = c.loop-k.k in
+    let bs = c.args.bytes.now in
     let h = c.shared_slice_known-1.given k in
-    let inv = c.before.before.loop-k.invariant in
+    let inv = c.loop-k.invariant in
     let e = big_take bs k (omega arith) in
-    (omega arith, omega arith, more_below c.before.before.loop-k.n k (get_or bs k 0) inv.2 (omega arith))
+    (omega arith, omega arith, more_below c.loop-k.n k (get_or bs k 0) inv.2 (omega arith))
 
 returns : tie.Need-returns invariant-loop decreases-loop
 returns c =
-    let bs = c.before.before.args.bytes.now in
-    let e : c.before.loop-k.k ≡ length bs = omega arith in
+    let bs = c.args.bytes.now in
+    let e : c.loop-k.k ≡ length bs = omega arith in
     let f : take (length bs) bs ≡ bs = take-length bs in
-    rw (e, f) at c.before.loop-k.invariant.1
+    rw (e, f) at c.loop-k.invariant.1
 
 pub number_spec : {M : Type 1} → statement M
 number_spec =

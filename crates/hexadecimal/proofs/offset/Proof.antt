@@ -11,14 +11,14 @@ use Rattle.hexadecimal.proofs.offset.Statement.{statement}
 use Rattle.hexadecimal.proofs.offset.Tie as tie
 
 sub-result : tie.Need-overflow_sub-result
-sub-result c = let n = c.before.args.bits in rw (less_whole n (omega arith)) (record { sfits = omega arith })
+sub-result c = let n = c.args.bits in rw (less_whole n (omega arith)) (record { sfits = omega arith })
 
 returns : tie.Need-returns-then-bits-lt2147483648
-returns c = let n = c.before.args.bits in rw (signed_low n (omega arith), lt-ltb n (2 ^ 63) (omega arith))
+returns c = let n = c.args.bits in rw (signed_low n (omega arith), lt-ltb n (2 ^ 63) (omega arith))
 
 returns-2 : tie.Need-returns-else-bits-lt2147483648
 returns-2 c =
-    let n = c.before.args.bits in
+    let n = c.args.bits in
     let e = less_whole n (omega arith) in
     rw (e, to_z-of_z w64 (negsuc (2 ^ 32 - suc n)) (record { sfits = omega arith }), signed_high n (omega arith))
 

@@ -11,30 +11,30 @@ use Rattle.joins.proofs.merge.Tie as tie
 
 find-requires : tie.Need-find-a-requires
 find-requires c κs =
-    let s = c.before.before.before in
+    let s = c in
     let L = s.requires.0 in
     ((L.links, labels_near L), s.requires.1.0)
 
 find-requires-2 : tie.Need-find-b-requires
 find-requires-2 c κs =
-    let s = c.before.before.before.before.before.before.before.before.before in
-    let L = unchanged_labels (found_unchanged c.before.before.before.before.before.find-a.ensures) s.requires.0 in
+    let s = c in
+    let L = unchanged_labels (found_unchanged c.find-a.ensures) s.requires.0 in
     ((L.links, labels_near L), rw L.count s.requires.1.1)
 
 join-found-requires : tie.Need-join_found-requires
 join-found-requires c κs =
-    let second = c.before.before.before.before.before.before.before.before in
-    let first = second.before.before.before.before.before.before in
-    let s = first.before.before.before.before in
+    let second = c in
+    let first = second in
+    let s = first in
     let labels = found_both first.find-a.ensures second.find-b.ensures in
     pair_joinable labels (labels_near s.requires.0) s.requires.1.0 s.requires.1.1 within_zero
 
 returns : tie.Need-returns
 returns c =
-    let second = c.before.before.before.before.before.before.before.before.before.before.before.before in
-    let first = second.before.before.before.before.before.before in
+    let second = c in
+    let first = second in
     let labels = found_both first.find-a.ensures second.find-b.ensures in
-    pair_equated labels (pos 0) refl c.before.before.before.join_found.ensures
+    pair_equated labels (pos 0) refl c.join_found.ensures
 
 pub merge_spec : {M : Type 1} → statement M
 merge_spec =

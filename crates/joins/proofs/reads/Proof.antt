@@ -8,16 +8,16 @@ use Rattle.joins.proofs.reads.Statement.{statement}
 use Rattle.joins.proofs.reads.Tie as tie
 
 returns : tie.Need-returns-then-r-ne-DEREF
-returns c = does_not (unchanged_self c.before.before.before.before.requires.1.0)
+returns c = does_not (unchanged_self c.requires.1.0)
 
 address-requires : tie.Need-address-other-requires
-address-requires c κs = let s = c.before.before.before.before.before.before in deref_record (term_in s.args.terms.now) s.requires.0 s.requires.1.0 s.requires.1.1 c.before.before.before.before.term_at-r.ensures c.before.before.if-r-ne-DEREF.false
+address-requires c κs = let s = c in deref_record (term_in s.args.terms.now) s.requires.0 s.requires.1.0 s.requires.1.1 c.term_at-r.ensures c.if-r-ne-DEREF.false
 
 returns-2 : tie.Need-returns-then-at-other
-returns-2 c = does_not c.before.before.before.before.before.before.address-other.ensures.unchanged
+returns-2 c = does_not c.address-other.ensures.unchanged
 
 returns-3 : tie.Need-returns
-returns-3 c = reads_by c.before.before.before.before.before.before.before.before.before.before.before.before.before.before.term_at-r.ensures c.before.before.before.before.before.before.before.before.before.before.before.before.if-r-ne-DEREF.false c.before.before.before.before.before.before.before.before.before.address-other.ensures c.before.before.before.if-at-other.false c.is_same.result (rw (to_z-of_z w64 c.before.before.before.before.before.before.before.before.before.before.before.before.before.before.before.before.args.at.offset (sfits_of c.before.before.struct_told-1.given.1.0.1), to_z-of_z w64 c.before.before.before.before.before.before.before.before.before.address-other.result.offset (sfits_of c.before.struct_told-2-1.given.1.0.1)) at c.is_same.ensures)
+returns-3 c = reads_by c.term_at-r.ensures c.if-r-ne-DEREF.false c.address-other.ensures c.if-at-other.false c.is_same.result (rw (to_z-of_z w64 c.args.at.offset (sfits_of c.struct_told-1.given.1.0.1), to_z-of_z w64 c.address-other.result.offset (sfits_of c.struct_told-2-1.given.1.0.1)) at c.is_same.ensures)
 
 pub reads_spec : {M : Type 1} → statement M
 reads_spec =

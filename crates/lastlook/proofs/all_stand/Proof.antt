@@ -24,34 +24,34 @@ loop-holds : tie.Need-loop-x-init invariant-loop decreases-loop
 loop-holds c = (omega arith, below_none _)
 
 loop-again : tie.Need-loop-x-preserved-then-not-is_deref invariant-loop decreases-loop
-loop-again c = (omega arith, below_more _ c.before.before.before.loop-x.x c.before.before.before.loop-x.invariant.1 (λ d. absurd (eqb-false _ _ (sym c.before.is_deref.ensures ∙ not-true _ c.if-not-is_deref.true) d)))
+loop-again c = (omega arith, below_more _ c.loop-x.x c.loop-x.invariant.1 (λ d. absurd (eqb-false _ _ (sym c.is_deref.ensures ∙ c.if-not-is_deref.true) d)))
 
 reader-of-requires : tie.Need-reader_of-reader-requires invariant-loop decreases-loop
-reader-of-requires c κs = class_read c.before.before.before.before.before.requires.0 (omega (arith, c.before.before.loop-x-test.true)) (eqb-true _ _ (sym c.before.is_deref.ensures ∙ not-false _ c.if-not-is_deref.false))
+reader-of-requires c κs = class_read c.requires.0 (omega (arith, c.loop-x-test.true)) (eqb-true _ _ (sym c.is_deref.ensures ∙ c.if-not-is_deref.false))
 
 is-alike-requires : tie.Need-is_alike-requires invariant-loop decreases-loop
 is-alike-requires c κs =
-    let L = c.before.before.before.before.before.before.before.requires.0 in
-    (L.offs_length ∙ sym L.reps_length, omega (arith, L.reps_length, c.before.before.before.before.loop-x-test.true))
+    let L = c.requires.0 in
+    (L.offs_length ∙ sym L.reps_length, omega (arith, L.reps_length, c.loop-x-test.true))
 
 loop-again-2 : tie.Need-loop-x-preserved-then-is_alike invariant-loop decreases-loop
 loop-again-2 c =
-    let l = c.before.before.before.before.before.before.before in
-    let L = l.before.before.requires.0 in
-    (omega (arith, c.before.before.before.before.before.before.loop-x-test.true), below_more _ l.loop-x.x l.loop-x.invariant.1 (λ d. alike_shown L.reps_length c.before.before.before.reader_of-reader.ensures (rw c.if-is_alike.true at c.before.is_alike.ensures)))
+    let l = c in
+    let L = l.requires.0 in
+    (omega (arith, c.loop-x-test.true), below_more _ l.loop-x.x l.loop-x.invariant.1 (λ d. alike_shown L.reps_length c.reader_of-reader.ensures (rw c.if-is_alike.true at c.is_alike.ensures)))
 
 word-requires : tie.Need-word-requires invariant-loop decreases-loop
-word-requires c κs = (c.before.before.before.before.before.before.before.before.before.before.requires.0, ((omega (arith, c.before.before.before.before.before.before.before.loop-test.true)), (eqb-true _ _ (sym c.before.before.before.before.before.before.is-deref.ensures ∙ not-false _ c.before.before.before.before.before.if1.false))))
+word-requires c κs = (c.requires.0, ((omega (arith, c.loop-x-test.true)), (eqb-true _ _ (sym c.is_deref.ensures ∙ c.if-not-is_deref.false))))
 
 loop-again-3 : tie.Need-loop-x-preserved invariant-loop decreases-loop
 loop-again-3 c =
-    let l = c.before.before.before.before.before.before.before.before.before.before in
-    let i = get_or l.before.before.args.places.now l.loop.x 0 in
-    let r = sym c.before.before.before.before.before.before.reader-of.ensures ∙ c.before.before.before.before.before.if2.false in
-    (omega (arith, c.before.before.before.before.before.before.before.before.before.loop-test.true), below_more _ l.loop.x l.loop.invariant.1 (λ d. listed r (record { place = i; below = omega (arith, c.before.before.before.if4.false); is = c.if-words-i.false ∙ c.before.word.ensures })))
+    let l = c in
+    let i = get_or l.args.places.now l.loop-x.x 0 in
+    let r = sym c.reader_of-reader.ensures ∙ c.if-reader-ne-MANY.false in
+    (omega (arith, c.loop-x-test.true), below_more _ l.loop-x.x l.loop-x.invariant.1 (λ d. listed r (record { place = i; below = omega (arith, c.if-count-i.false); is = c.if-words-i.false ∙ c.word.ensures })))
 
 returns-4 : tie.Need-returns invariant-loop decreases-loop
-returns-4 c = all_stand (λ k h. c.before.loop-x.invariant.1 k (omega (arith, c.loop-x-test.false)))
+returns-4 c = all_stand (λ k h. c.loop-x.invariant.1 k (omega (arith, c.loop-x-test.false)))
 
 pub all_stand_spec : {M : Type 1} → statement M
 all_stand_spec =

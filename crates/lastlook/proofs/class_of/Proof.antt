@@ -7,13 +7,13 @@ use Rattle.lastlook.proofs.class_of.Statement.{statement}
 use Rattle.lastlook.proofs.class_of.Tie as tie
 
 mul-result : tie.Need-offset_bounds-representatives-inner
-mul-result c = let e = c.index-inner.ensures ∙ ap (λ (r : TermRecord). r.number) c.before.term_at.ensures in omega arith
+mul-result c = let e = c.index-inner.ensures ∙ ap (λ (r : TermRecord). r.number) c.term_at.ensures in omega arith
 
 shared-slice-read-result : tie.Need-bounds-representatives-inner
-shared-slice-read-result c = let e = c.before.index-inner.ensures ∙ ap (λ (r : TermRecord). r.number) c.before.before.term_at.ensures in omega arith
+shared-slice-read-result c = let e = c.index-inner.ensures ∙ ap (λ (r : TermRecord). r.number) c.term_at.ensures in omega arith
 
 returns : tie.Need-returns
-returns c = let e = c.before.index-inner.ensures ∙ ap (λ (r : TermRecord). r.number) c.before.before.term_at.ensures in rw e
+returns c = let e = c.index-inner.ensures ∙ ap (λ (r : TermRecord). r.number) c.term_at.ensures in rw e
 
 pub class_of_spec : {M : Type 1} → statement M
 class_of_spec =

@@ -23,11 +23,11 @@ returns-4 c = wrong
 
 returns-5 : tie.Need-returns-then-same_label
 returns-5 c =
-    let h = holds_true _ (comparison c.before.before.before.before.before.index-x.result (pos 0) c.before.before.before.before.index-y.result) (sym c.before.same_label.ensures ∙ c.if-same_label.true) in
-    right (record { rises = omega (arith, c.before.before.before.before.before.before.before.if-a-b.false, c.before.before.before.before.before.before.if-b-a.false); agrees = λ e. rw (c.before.before.before.before.before.index-x.ensures, c.before.before.before.before.index-y.ensures) at h })
+    let h = holds_true _ (comparison c.index-x.result (pos 0) c.index-y.result) (sym c.same_label.ensures ∙ c.if-same_label.true) in
+    right (record { rises = omega (arith, c.if-a-b.false, c.if-b-a.false); agrees = λ e. rw (c.index-x.ensures, c.index-y.ensures) at h })
 
 returns-6 : tie.Need-returns-then-is_unequal
-returns-6 c = unequal_found c.before.before.before.before.before.if-terms-x.false c.before.before.before.before.if-terms-y.false (rw c.if-is_unequal.true at c.before.is_unequal.ensures)
+returns-6 c = unequal_found c.if-terms-x.false c.if-terms-y.false (rw c.if-is_unequal.true at c.is_unequal.ensures)
 
 returns-7 : tie.Need-returns
 returns-7 c = wrong

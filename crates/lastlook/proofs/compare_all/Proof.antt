@@ -19,19 +19,19 @@ loop-holds : tie.Need-loop-i-init invariant-loop decreases-loop
 loop-holds c = (omega arith, λ k l h. absurd (omega arith))
 
 compare-requires : tie.Need-compare-requires invariant-loop decreases-loop
-compare-requires c κs = c.before.before.before.before.before.requires.0
+compare-requires c κs = c.requires.0
 
 returns : tie.Need-returns-in-Pair invariant-loop decreases-loop
-returns c = tested_as _ (rw c.before.x-1.given.1 at c.before.before.before.compare.ensures)
+returns c = tested_as _ (rw c.in-Pair.is at c.compare.ensures)
 
 returns-2 : tie.Need-returns-in-Unordered invariant-loop decreases-loop
 returns-2 c = wrong
 
 loop-again : tie.Need-loop-i-preserved invariant-loop decreases-loop
-loop-again c = (omega arith, below_more _ c.before.before.before.before.before.before.loop.i c.before.before.before.before.before.before.loop.invariant.1 (λ h. tested_right (rw c.enum_told-in-Agree-1.given.1 at c.before.before.compare.ensures)))
+loop-again c = (omega arith, below_more _ c.loop-i.i c.loop-i.invariant.1 (λ h. tested_right (rw c.in-Agree.is at c.compare.ensures)))
 
 returns-3 : tie.Need-returns invariant-loop decreases-loop
-returns-3 c = right (record { step = λ k l. c.before.loop-i.invariant.1 k (omega (arith, c.loop-i-test.false)) })
+returns-3 c = right (record { step = λ k l. c.loop-i.invariant.1 k (omega (arith, c.loop-i-test.false)) })
 
 pub compare_all_spec : {M : Type 1} → statement M
 compare_all_spec =

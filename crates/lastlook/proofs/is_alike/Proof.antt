@@ -7,18 +7,18 @@ use Rattle.lastlook.proofs.is_alike.Tie as tie
 
 sub-t6 : tie.Need-overflow_sub-reader
 sub-t6 c =
-    let s = c.before.before in
+    let s = c in
     omega (arith, names_one (length s.args.representatives.now) s.args.reader c.if-reader-representatives.false)
 
 same-label-requires : tie.Need-same_label-requires
 same-label-requires c κs =
-    let s = c.before.before in
+    let s = c in
     (s.requires.0, (omega (arith, names_one (length s.args.representatives.now) s.args.reader c.if-reader-representatives.false), s.requires.1))
 
 returns-2 : tie.Need-returns
 returns-2 c =
-    let s = c.before.before.before in
-    alike_by (names_one (length s.args.representatives.now) s.args.reader c.before.if-reader-representatives.false) c.same_label.result c.same_label.ensures
+    let s = c in
+    alike_by (names_one (length s.args.representatives.now) s.args.reader c.if-reader-representatives.false) c.same_label.result c.same_label.ensures
 
 pub is_alike_spec : {M : Type 1} → statement M
 is_alike_spec = tie.close (tie.spec (λ c. not_told) sub-t6 same-label-requires returns-2)

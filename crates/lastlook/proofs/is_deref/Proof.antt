@@ -7,7 +7,7 @@ use Rattle.lastlook.proofs.is_deref.Statement.{statement}
 use Rattle.lastlook.proofs.is_deref.Tie as tie
 
 returns : tie.Need-returns
-returns c = ap (λ (r : TermRecord). eqb r.kind 3) c.before.term_at.ensures
+returns c = ap (λ (r : TermRecord). eqb r.kind 3) c.term_at.ensures
 
 pub is_deref_spec : {M : Type 1} → statement M
 is_deref_spec = tie.close (tie.spec (λ c κs. search rules) returns)

@@ -10,7 +10,7 @@ use Rattle.lastlook.proofs.key.Tie as tie
 returns : tie.Need-returns
 unfolding key_of
 returns c =
-    let e = rw (to_z-of_z w64 c.before.args.address c.before.ranges.address) at c.bits-a.ensures in
+    let e = rw (to_z-of_z w64 c.args.address c.ranges.address) at c.bits-a.ensures in
     (rw e, omega arith)
 
 pub key_spec : {M : Type 1} → statement M

@@ -15,10 +15,10 @@ abbrev decreases-loop : tie.decreases-loop-x
 decreases-loop terms representatives offsets readers words₀ count₀ x₀ x-end words count x = length terms - x
 
 reader-of-requires : tie.Need-reader_of-requires invariant-loop decreases-loop
-reader-of-requires c κs = class_read c.before.before.before.before.before.requires (omega (arith, c.before.before.loop-x-test.true)) (eqb-true _ _ (sym c.before.is_deref.ensures ∙ not-false _ c.if-not-is_deref.false))
+reader-of-requires c κs = class_read c.requires (omega (arith, c.loop-x-test.true)) (eqb-true _ _ (sym c.is_deref.ensures ∙ c.if-not-is_deref.false))
 
 word-requires : tie.Need-word-requires invariant-loop decreases-loop
-word-requires c κs = (c.before.before.before.before.before.before.before.requires, ((omega (arith, c.before.before.before.before.loop-x-test.true)), (eqb-true _ _ (sym c.before.before.before.is_deref.ensures ∙ not-false _ c.before.before.if-not-is_deref.false))))
+word-requires c κs = (c.requires, ((omega (arith, c.loop-x-test.true)), (eqb-true _ _ (sym c.is_deref.ensures ∙ c.if-not-is_deref.false))))
 
 pub list_words_spec : {M : Type 1} → statement M
 list_words_spec =

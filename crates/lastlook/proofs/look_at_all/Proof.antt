@@ -17,7 +17,7 @@ abbrev decreases-loop : tie.decreases-loop-k
 decreases-loop terms representatives offsets n k₀ k-end k = n * n - k
 
 mul-k-end : tie.Need-overflow_mul-k-end invariant-loop decreases-loop
-mul-k-end c = omega (arith, pairs_few _ c.before.requires.few)
+mul-k-end c = omega (arith, pairs_few _ c.requires.few)
 
 loop-holds : tie.Need-loop-k-init invariant-loop decreases-loop
 loop-holds c = (omega arith, below_none _)
@@ -29,19 +29,19 @@ rem-y : tie.Need-nonzero-rem-y invariant-loop decreases-loop
 rem-y c = let p = pair_below _ c.loop-test.true in omega arith
 
 is-unequal-requires : tie.Need-is_unequal-requires invariant-loop decreases-loop
-is-unequal-requires c κs = let p = pair_below _ c.loop-k-test.true in (c.before.before.before.requires, (p.first, p.second))
+is-unequal-requires c κs = let p = pair_below _ c.loop-k-test.true in (c.requires, (p.first, p.second))
 
 returns : tie.Need-returns-then-is_unequal invariant-loop decreases-loop
-returns c = let p = pair_below _ c.before.before.loop-k-test.true in unequal_pair p.first p.second (rw c.if-is_unequal.true at c.before.is_unequal.ensures)
+returns c = let p = pair_below _ c.loop-k-test.true in unequal_pair p.first p.second (rw c.if-is_unequal.true at c.is_unequal.ensures)
 
 add-k : tie.Need-overflow_step-k invariant-loop decreases-loop
-add-k c = omega (arith, pairs_few _ c.before.before.before.before.before.requires.few, c.before.before.loop-k-test.true)
+add-k c = omega (arith, pairs_few _ c.requires.few, c.loop-k-test.true)
 
 loop-again : tie.Need-loop-k-preserved invariant-loop decreases-loop
-loop-again c = (omega arith, below_more _ c.before.before.before.loop-k.k c.before.before.before.loop-k.invariant.1 (not_unequal (rw c.if-is_unequal.false at c.before.is_unequal.ensures)))
+loop-again c = (omega arith, below_more _ c.loop-k.k c.loop-k.invariant.1 (not_unequal (rw c.if-is_unequal.false at c.is_unequal.ensures)))
 
 returns-2 : tie.Need-returns invariant-loop decreases-loop
-returns-2 c = closed_by_all _ (λ j h. c.before.loop-k.invariant.1 j (omega (arith, c.loop-k-test.false)))
+returns-2 c = closed_by_all _ (λ j h. c.loop-k.invariant.1 j (omega (arith, c.loop-k-test.false)))
 
 pub look_at_all_spec : {M : Type 1} → statement M
 look_at_all_spec =

@@ -5,12 +5,12 @@ use Rattle.lastlook.proofs.look_by_order.Statement.{statement}
 use Rattle.lastlook.proofs.look_by_order.Tie as tie
 
 returns : tie.Need-returns-in-Pair
-returns c = tested_pair (rw c.before.x-1.given.1 at c.before.before.before.compare_all.ensures)
+returns c = tested_pair (rw c.in-Pair.is at c.compare_all.ensures)
 
 returns-3 : tie.Need-returns-then-all_stand
 returns-3 c =
-    let ordered = tested_right (rw c.before.before.enum_told-in-Agree-1.given.1 at c.before.before.before.before.compare_all.ensures) in
-    closed_by_order _ _ _ c.before.before.before.before.before.before.requires.0.few ordered (standing_all (rw c.if-all_stand.true at c.before.all_stand.ensures))
+    let ordered = tested_right (rw c.in-Agree.is at c.compare_all.ensures) in
+    closed_by_order _ _ _ c.requires.0.few ordered (standing_all (rw c.if-all_stand.true at c.all_stand.ensures))
 
 pub look_by_order_spec : {M : Type 1} → statement M
 look_by_order_spec =

@@ -15,18 +15,18 @@ abbrev decreases-loop : tie.decreases-loop-i
 decreases-loop terms representatives offsets readers₀ i₀ i-end readers i = length terms - i
 
 class-of-requires : tie.Need-class_of-class-requires invariant-loop decreases-loop
-class-of-requires c κs = (class_read c.before.before.before.before.before.requires (omega (arith, c.before.before.loop-i-test.true)) (eqb-true _ _ (sym c.before.is_deref.ensures ∙ not-false _ c.if-not-is_deref.false))).0
+class-of-requires c κs = (class_read c.requires (omega (arith, c.loop-i-test.true)) (eqb-true _ _ (sym c.is_deref.ensures ∙ c.if-not-is_deref.false))).0
 
 element-copy-out-note-reader : tie.Need-bounds-readers-class invariant-loop decreases-loop
-element-copy-out-note-reader c = omega (arith, c.class_of.ensures, (class_read c.before.before.before.before.before.before.requires (omega (arith, c.before.before.before.loop-test.true)) (eqb-true _ _ (sym c.before.before.is-deref.ensures ∙ not-false _ c.before.if1.false))).1)
+element-copy-out-note-reader c = omega (arith, c.class_of-class.ensures, (class_read c.requires (omega (arith, c.loop-i-test.true)) (eqb-true _ _ (sym c.is_deref.ensures ∙ c.if-not-is_deref.false))).1)
 
 note-reader-requires : tie.Need-note_reader-requires invariant-loop decreases-loop
 note-reader-requires c κs =
-    let L = c.before.before.before.before.before.before.before.requires in
-    (L.offs_length ∙ sym L.reps_length, omega (arith, L.reps_length, c.before.before.before.before.loop-test.true))
+    let L = c.requires in
+    (L.offs_length ∙ sym L.reps_length, omega (arith, L.reps_length, c.loop-i-test.true))
 
 element-write-readers : tie.Need-bounds-readers-class-in-loop-i invariant-loop decreases-loop
-element-write-readers c = omega (arith, c.before.before.class_of.ensures, (class_read c.before.before.before.before.before.before.before.before.requires (omega (arith, c.before.before.before.before.before.loop-test.true)) (eqb-true _ _ (sym c.before.before.before.before.is-deref.ensures ∙ not-false _ c.before.before.before.if1.false))).1)
+element-write-readers c = omega (arith, c.class_of-class.ensures, (class_read c.requires (omega (arith, c.loop-i-test.true)) (eqb-true _ _ (sym c.is_deref.ensures ∙ c.if-not-is_deref.false))).1)
 
 pub note_readers_spec : {M : Type 1} → statement M
 note_readers_spec =

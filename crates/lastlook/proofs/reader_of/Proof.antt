@@ -4,7 +4,7 @@ use Rattle.lastlook.proofs.reader_of.Statement.{statement}
 use Rattle.lastlook.proofs.reader_of.Tie as tie
 
 returns : tie.Need-returns
-returns c = rw c.before.class_of.ensures
+returns c = rw c.class_of-class.ensures
 
 pub reader_of_spec : {M : Type 1} → statement M
 reader_of_spec =

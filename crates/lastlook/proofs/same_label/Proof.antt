@@ -14,8 +14,8 @@ returns c = rw (ne_eqb _ _ c.if-representatives-i.true)
 returns-2 : tie.Need-returns
 unfolding holds
 returns-2 c =
-    let e = c.is_same.ensures ∙ signed_same _ _ (sfits_of c.before.before.is_same-arg-1.given) (sfits_of c.before.is_same-arg-2-1.given) in
-    rw (eq-eqb _ _ c.before.before.before.if-representatives-i.false, zero_plus) e
+    let e = c.is_same.ensures ∙ signed_same _ _ (sfits_of c.is_same-arg-1.given) (sfits_of c.is_same-arg-2-1.given) in
+    rw (eq-eqb _ _ c.if-representatives-i.false, zero_plus) e
 
 pub same_label_spec : {M : Type 1} → statement M
 same_label_spec =

@@ -7,7 +7,7 @@ use Rattle.numbers.proofs.blame_of.Statement.{statement}
 use Rattle.numbers.proofs.blame_of.Tie as tie
 
 returns-2 : tie.Need-returns
-returns-2 c = sym (asks_unless_zero.1 c.before.args.number (omega (arith, c.if-number-eq0.false)))
+returns-2 c = sym (asks_unless_zero.1 c.args.number (omega (arith, c.if-number-eq0.false)))
 
 pub blame_of_spec : {M : Type 1} → statement M
 blame_of_spec = tie.close (tie.spec (λ c. search rules) returns-2)

@@ -4,10 +4,10 @@ use Rattle.numbers.proofs.read_number.Statement.{statement}
 use Rattle.numbers.proofs.read_number.Tie as tie
 
 returns : tie.Need-returns-in-Accepted
-returns c = rw c.before.before.before.before.r-1.given.1
+returns c = rw c.in-Accepted.is
 
 returns-2 : tie.Need-returns-in-Refused
-returns-2 c = rw (c.before.before.before.r-in-Refused-1.given.1, c.before.number_of_lem.ensures.0)
+returns-2 c = rw (c.in-Refused.is, c.number_of.ensures.0)
 
 pub read_number_spec : {M : Type 1} → statement M
 read_number_spec =

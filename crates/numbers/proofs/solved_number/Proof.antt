@@ -4,7 +4,7 @@ use Rattle.numbers.proofs.solved_number.Statement.{statement}
 use Rattle.numbers.proofs.solved_number.Tie as tie
 
 returns-3 : tie.Need-returns-in-Refused
-returns-3 c = rw (c.before.before.before.s-1.given.1, c.before.number_of_lem.ensures.0)
+returns-3 c = rw (c.in-Refused.is, c.number_of.ensures.0)
 
 pub solved_number_spec : {M : Type 1} → statement M
 solved_number_spec =

@@ -17,53 +17,53 @@ abbrev decreases-loop : tie.decreases-loop-k
 decreases-loop m a p b q left-classes left-heights right-classes right-heights side-first side-next k₀ k = m - k
 
 add-slot : tie.Need-overflow_add-p invariant-loop decreases-loop
-add-slot c = omega (arith, c.before.before.before.before.before.before.requires.0.1.0)
+add-slot c = omega (arith, c.requires.0.1.0)
 
 sub-slot : tie.Need-overflow_sub-p invariant-loop decreases-loop
-sub-slot c = omega (arith, c.before.before.before.before.before.before.requires.0.1.1)
+sub-slot c = omega (arith, c.requires.0.1.1)
 
 slot-requires : tie.Need-slot-requires invariant-loop decreases-loop
-slot-requires c κs = let p = c.before.before.before.before.before.before.requires in (p.1.1, omega (arith, p.0.1.0))
+slot-requires c κs = let p = c.requires in (p.1.1, omega (arith, p.0.1.0))
 
 linked-requires : tie.Need-linked-k-requires invariant-loop decreases-loop
-linked-requires c κs = rw c.before.before.before.before.before.before.before.requires.1.0.chains.starts.long c.slot.ensures.1
+linked-requires c κs = rw c.requires.1.0.chains.starts.long c.slot.ensures.1
 
 loop-holds : tie.Need-loop-k-init invariant-loop decreases-loop
-loop-holds c = let s = c.before.before.before.before.before.before.before.before in
+loop-holds c = let s = c in
     let a = s.args in
-    rw (c.linked-k.ensures, c.before.slot.ensures.0)
+    rw (c.linked-k.ensures, c.slot.ensures.0)
     (seeking_start (OneWay a.left-classes.now a.left-heights.now a.right-classes.now a.right-heights.now a.m a.a a.p a.b a.q)
     (one_way_slot a.left-classes.now a.left-heights.now a.right-classes.now a.right-heights.now a.a a.p a.b a.q s.requires.0.0 s.requires.0.1.1)
-    (slot_start s.requires.1.0 (slot_of a.a (distance a.p a.q)) (rw c.before.slot.ensures.0 at c.before.slot.ensures.1)))
+    (slot_start s.requires.1.0 (slot_of a.a (distance a.p a.q)) (rw c.slot.ensures.0 at c.slot.ensures.1)))
 
 shows-side-requires : tie.Need-shows_side-requires invariant-loop decreases-loop
-shows-side-requires c κs = let p = c.before.before.before.before.before.before.before.before.before.before.requires.0 in (p.0 c.before.loop-k.k c.loop-k-test.true, p.1)
+shows-side-requires c κs = let p = c.requires.0 in (p.0 c.loop-k.k c.loop-k-test.true, p.1)
 
 returns : tie.Need-returns-then-shows_side invariant-loop decreases-loop
-returns c = found c.before.before.before.loop-k.k c.before.before.loop-k-test.true (record { inside = c.before.before.loop-k-test.true; test = sym c.before.shows_side.ensures ∙ c.if-shows_side.true })
+returns c = found c.loop-k.k c.loop-k-test.true (record { inside = c.loop-k-test.true; test = sym c.shows_side.ensures ∙ c.if-shows_side.true })
 
 linked-requires-2 : tie.Need-linked-k-requires-in-loop-k invariant-loop decreases-loop
-linked-requires-2 c κs = omega (arith, c.before.before.before.before.before.before.before.before.before.before.before.before.requires.1.0.chains.room, c.before.before.loop-k-test.true)
+linked-requires-2 c κs = omega (arith, c.requires.1.0.chains.room, c.loop-k-test.true)
 
 loop-less : tie.Need-loop-k-smaller invariant-loop decreases-loop
-loop-less c = let f = (slot_link c.before.before.before.before.before.before.before.before.before.before.before.before.before.requires.1.0 c.before.before.before.before.loop-k.k c.before.before.before.loop-k-test.true).after in omega (arith, c.linked-k-in-loop-k.ensures, c.before.before.before.loop-k-test.true)
+loop-less c = let f = (slot_link c.requires.1.0 c.loop-k.k c.loop-k-test.true).after in omega (arith, c.linked-k-in-loop-k.ensures, c.loop-k-test.true)
 
 loop-again : tie.Need-loop-k-preserved invariant-loop decreases-loop
-loop-again c = let s = c.before.before.before.before.before.before.before.before.before.before.before.before.before in
+loop-again c = let s = c in
     let a = s.args in
-    let h = c.before.before.before.loop-k-test.true in
+    let h = c.loop-k-test.true in
     rw c.linked-k-in-loop-k.ensures
     (seeking_more (OneWay a.left-classes.now a.left-heights.now a.right-classes.now a.right-heights.now a.m a.a a.p a.b a.q)
     (one_way_slot a.left-classes.now a.left-heights.now a.right-classes.now a.right-heights.now a.a a.p a.b a.q s.requires.0.0 s.requires.0.1.1)
-    h (slot_link s.requires.1.0 c.before.before.before.before.loop-k.k h) c.before.before.before.before.loop-k.invariant
-    (λ w. false_true (sym c.before.before.shows_side.ensures ∙ c.before.if-shows_side.false) w.test))
+    h (slot_link s.requires.1.0 c.loop-k.k h) c.loop-k.invariant
+    (λ w. false_true (sym c.shows_side.ensures ∙ c.if-shows_side.false) w.test))
 
 returns-2 : tie.Need-returns invariant-loop decreases-loop
-returns-2 c = let s = c.before.before.before.before.before.before.before.before.before.before in
+returns-2 c = let s = c in
     let a = s.args in
     seeking_done (OneWay a.left-classes.now a.left-heights.now a.right-classes.now a.right-heights.now a.m a.a a.p a.b a.q)
     (one_way_slot a.left-classes.now a.left-heights.now a.right-classes.now a.right-heights.now a.a a.p a.b a.q s.requires.0.0 s.requires.0.1.1)
-    c.loop-k-test.false c.before.loop-k.invariant
+    c.loop-k-test.false c.loop-k.invariant
 
 pub any_side_spec : {M : Type 1} → statement M
 any_side_spec =

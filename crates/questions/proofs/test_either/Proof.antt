@@ -6,10 +6,10 @@ use Rattle.questions.proofs.test_either.Statement.{statement}
 use Rattle.questions.proofs.test_either.Tie as tie
 
 returns : tie.Need-returns-then-mirrored
-returns c = let s = c.before.before.before.args in c.test_pair.ensures ∙ bit_mirrored s.n s.pairs.now s.i.0 s.j.0 c.before.if-mirrored.true
+returns c = let s = c.args in c.test_pair.ensures ∙ bit_mirrored s.n s.pairs.now s.i.0 s.j.0 c.if-mirrored.true
 
 returns-2 : tie.Need-returns
-returns-2 c = let s = c.before.before.before.args in c.test_pair-2.ensures ∙ bit_straight s.n s.pairs.now s.i.0 s.j.0 c.before.if-mirrored.false
+returns-2 c = let s = c.args in c.test_pair-2.ensures ∙ bit_straight s.n s.pairs.now s.i.0 s.j.0 c.if-mirrored.false
 
 pub test_either_spec : {M : Type 1} → statement M
 test_either_spec = tie.close (tie.spec (λ c κs. search rules) returns (λ c κs. search rules) returns-2)

@@ -9,7 +9,7 @@ use Rattle.reader.proofs.faulty_line.Tie as tie
 
 returns : tie.Need-returns
 returns c =
-    let p = c.before.before.faulty_part-part in
+    let p = c.faulty_part-part in
     let size : p.result.start + p.result.size - p.result.start ≡ p.result.size = omega arith in
     handed_back _ _ _ p.result p.ensures refl (rw size)
 

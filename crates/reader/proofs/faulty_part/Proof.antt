@@ -6,13 +6,13 @@ use Rattle.reader.proofs.faulty_part.Statement.{statement}
 use Rattle.reader.proofs.faulty_part.Tie as tie
 
 returns : tie.Need-returns-then-short
-returns c = part_short _ _ _ _ (sym c.before.short.ensures ∙ c.if-short.true)
+returns c = part_short _ _ _ _ (sym c.short.ensures ∙ c.if-short.true)
 
 returns-2 : tie.Need-returns-in-Refused
-returns-2 c = part_refused _ _ _ _ (sym c.before.before.before.before.before.short.ensures ∙ c.before.before.before.before.if-short.false) _ _ (sym c.before.part-1.given.1 ∙ c.before.before.before.judge.ensures.answer) (rw c.before.part-1.given.1 at c.before.before.before.judge.ensures.within)
+returns-2 c = part_refused _ _ _ _ (sym c.short.ensures ∙ c.if-short.false) _ _ (sym c.in-Refused.is ∙ c.judge.ensures.answer) (rw c.in-Refused.is at c.judge.ensures.within)
 
 returns-3 : tie.Need-returns-in-Accepted
-returns-3 c = part_accepted _ _ _ _ (sym c.before.before.before.before.short.ensures ∙ c.before.before.before.if-short.false) _ (sym c.enum_told-1.given.1 ∙ c.before.before.judge.ensures.answer)
+returns-3 c = part_accepted _ _ _ _ (sym c.short.ensures ∙ c.if-short.false) _ (sym c.in-Accepted.is ∙ c.judge.ensures.answer)
 
 pub faulty_part_spec : {M : Type 1} → statement M
 faulty_part_spec =

@@ -8,24 +8,24 @@ use Rattle.reader.proofs.read.Statement.{statement}
 use Rattle.reader.proofs.read.Tie as tie
 
 returns : tie.Need-returns-then-short
-returns c = read_short _ _ (sym c.before.short.ensures ∙ c.if-short.true)
+returns c = read_short _ _ (sym c.short.ensures ∙ c.if-short.true)
 
 copy-rows-requires : tie.Need-copy_rows-requires
 copy-rows-requires c κs =
-    let l = c.before.before.before.before.before.before.before.before.before.before.before.before.load in
-    let e = c.before.before.before.before.before.before.before.counts-1.given.1 in
-    let room = room_for_most _ (sym c.before.before.before.before.before.before.before.before.before.before.before.before.before.before.before.before.before.short.ensures ∙ c.before.before.before.before.before.before.before.before.before.before.before.before.before.before.before.before.if-short.false) in
+    let l = c.load in
+    let e = c.in-Accepted.is in
+    let room = room_for_most _ (sym c.short.ensures ∙ c.if-short.false) in
     (room_loaded _ _ _ _ l.ensures _ e, room_lent _ _ _ _ l.ensures _ e _ (omega (arith, l.auto.1.0)) (omega (arith, l.auto.1.1.0)) (omega (arith, l.auto.1.1.1.0)) room)
 
 returns-2 : tie.Need-returns-in-Refused
-returns-2 c = read_refused _ _ (sym c.before.before.before.before.before.before.before.before.before.before.before.short.ensures ∙ c.before.before.before.before.before.before.before.before.before.before.if-short.false) _ _ (sym c.before.fault-1.given.1 ∙ c.before.before.before.before.before.before.load.ensures.judged.answer)
+returns-2 c = read_refused _ _ (sym c.short.ensures ∙ c.if-short.false) _ _ (sym c.in-Refused.is ∙ c.load.ensures.judged.answer)
 
 returns-3 : tie.Need-returns-in-Accepted
 returns-3 c =
-    let l = c.before.before.before.before.before.before.before.before.before.before.before.before.before.before.before.before.load in
-    let e = c.before.before.before.before.before.before.before.before.before.before.before.counts-1.given.1 in
-    read_accepted _ _ (sym c.before.before.before.before.before.before.before.before.before.before.before.before.before.before.before.before.before.before.before.before.before.short.ensures ∙ c.before.before.before.before.before.before.before.before.before.before.before.before.before.before.before.before.before.before.before.before.if-short.false) _ _ (sym e ∙ l.ensures.judged.answer)
-    (copied_loaded _ _ _ _ l.ensures _ e _ _ c.before.before.before.copy_rows.ensures)
+    let l = c.load in
+    let e = c.in-Accepted.is in
+    read_accepted _ _ (sym c.short.ensures ∙ c.if-short.false) _ _ (sym e ∙ l.ensures.judged.answer)
+    (copied_loaded _ _ _ _ l.ensures _ e _ _ c.copy_rows.ensures)
 
 pub read_spec : {M : Type 1} → statement M
 read_spec =

@@ -19,24 +19,24 @@ returns : tie.Need-returns-in_default
 unfolding records_fault
 returns c =
     let T = tables c.before.before.before in
-    refused_first (in_terms T) (or_else (in_propositions T) (in_questions T)) c.before.before.check_terms-found.ensures c.enum_told-in_default-1.given.1
+    refused_first (in_terms T) (or_else (in_propositions T) (in_questions T)) c.check_terms-found.ensures c.in_default.is
 
 returns-2 : tie.Need-returns-in_default-found
 unfolding records_fault
 returns-2 c =
-    let t = c.before.before.before in
+    let t = c in
     let T = tables t.before.before.before in
-    accepted_first (in_terms T) (or_else (in_propositions T) (in_questions T)) t.before.before.check_terms-found.ensures t.enum_told-1.given.1
-    (refused_first (in_propositions T) (in_questions T) c.before.before.check_propositions-found.ensures c.enum_told-in_default-found-1.given.1)
+    accepted_first (in_terms T) (or_else (in_propositions T) (in_questions T)) t.check_terms-found.ensures t.in-Accepted.is
+    (refused_first (in_propositions T) (in_questions T) c.check_propositions-found.ensures c.in_default-found.is)
 
 returns-3 : tie.Need-returns
 unfolding records_fault
 returns-3 c =
-    let p = c.before in
-    let t = p.before.before.before in
+    let p = c in
+    let t = p in
     let T = tables t.before.before.before in
-    accepted_first (in_terms T) (or_else (in_propositions T) (in_questions T)) t.before.before.check_terms-found.ensures t.enum_told-1.given.1
-    (accepted_first (in_propositions T) (in_questions T) p.before.before.check_propositions-found.ensures p.enum_told-in-Accepted-found-1.given.1 c.check_questions.ensures)
+    accepted_first (in_terms T) (or_else (in_propositions T) (in_questions T)) t.check_terms-found.ensures t.in-Accepted.is
+    (accepted_first (in_propositions T) (in_questions T) p.check_propositions-found.ensures p.in-Accepted-found.is c.check_questions.ensures)
 
 pub check_records_spec : {M : Type 1} → statement M
 check_records_spec =

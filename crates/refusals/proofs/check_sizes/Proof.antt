@@ -7,29 +7,29 @@ use Rattle.refusals.proofs.check_sizes.Tie as tie
 
 returns : tie.Need-returns-then-many_terms
 unfolding lengths_fault
-returns c = c.refuse.ensures ∙ rw c.before.if-many_terms.true
+returns c = c.refuse.ensures ∙ rw c.if-many_terms.true
 
 returns-2 : tie.Need-returns-then-many_propositions
 unfolding lengths_fault
-returns-2 c = c.refuse-then-many_propositions.ensures ∙ rw (c.before.before.if-many_terms.false, c.before.if-many_propositions.true)
+returns-2 c = c.refuse-then-many_propositions.ensures ∙ rw (c.if-many_terms.false, c.if-many_propositions.true)
 
 returns-3 : tie.Need-returns-then-many_questions
 unfolding lengths_fault
 returns-3 c =
-    let m = c.before.before in
-    c.refuse-then-many_questions.ensures ∙ rw (m.before.if-many_terms.false, m.if-many_propositions.false, c.before.if-many_questions.true)
+    let m = c in
+    c.refuse-then-many_questions.ensures ∙ rw (m.if-many_terms.false, m.if-many_propositions.false, c.if-many_questions.true)
 
 returns-4 : tie.Need-returns-then-short
 unfolding lengths_fault
 returns-4 c =
-    let m = c.before.before.before in
-    c.refuse-then-short.ensures ∙ rw (m.before.if-many_terms.false, m.if-many_propositions.false, c.before.before.if-many_questions.false, c.before.if-short.true)
+    let m = c in
+    c.refuse-then-short.ensures ∙ rw (m.if-many_terms.false, m.if-many_propositions.false, c.if-many_questions.false, c.if-short.true)
 
 returns-5 : tie.Need-returns
 unfolding lengths_fault
 returns-5 c =
-    let m = c.before.before in
-    rw (m.before.if-many_terms.false, m.if-many_propositions.false, c.before.if-many_questions.false, c.if-short.false)
+    let m = c in
+    rw (m.if-many_terms.false, m.if-many_propositions.false, c.if-many_questions.false, c.if-short.false)
 
 pub check_sizes_spec : {M : Type 1} → statement M
 check_sizes_spec =

@@ -15,21 +15,21 @@ tables s = tables_of s.args.n s.args.terms.now s.args.m s.args.propositions.now 
 sizes : (c : tie.In-Accepted) → Sized most (tables c.before.before.before)
 sizes c =
     let T = tables c.before.before.before in
-    sized most T (accepts (sizes_fault most T) c.before.before.check_sizes-sizes.ensures c.enum_told-1.given.1)
+    sized most T (accepts (sizes_fault most T) c.check_sizes-sizes.ensures c.in-Accepted.is)
 
 returns : tie.Need-returns-in_default
 unfolding tables_fault
 returns c =
     let T = tables c.before.before.before in
-    refused_first (sizes_fault most T) (records_fault T) c.before.before.check_sizes-sizes.ensures c.enum_told-in_default-1.given.1
+    refused_first (sizes_fault most T) (records_fault T) c.check_sizes-sizes.ensures c.in_default.is
 
 returns-2 : tie.Need-returns
 unfolding tables_fault
 returns-2 c =
-    let t = c.before.before.before.before in
+    let t = c in
     let T = tables t.before.before.before in
-    accepted_first (sizes_fault most T) (records_fault T) t.before.before.check-sizes.ensures t.enum_told.given.1
-    (rw (parts_fault most T (sizes t)) at c.check_records.ensures)
+    accepted_first (sizes_fault most T) (records_fault T) t.check_sizes-sizes.ensures t.in-Accepted.is
+    (rw (parts_fault most T (sizes t.before)) at c.check_records.ensures)
 
 pub check_tables_spec : {M : Type 1} → statement M
 check_tables_spec =
@@ -39,8 +39,8 @@ check_tables_spec =
     (λ c. search rules)
     (λ c. search rules)
     returns
-    (λ c. sym (length-take-le _ _ (sizes c.before).terms_long))
-    (λ c. sym (length-take-le _ _ (sizes c.before.before).propositions_long))
-    (λ c. sym (length-take-le _ _ (sizes c.before.before.before).questions_long))
+    (λ c. sym (length-take-le _ _ (sizes c).terms_long))
+    (λ c. sym (length-take-le _ _ (sizes c).propositions_long))
+    (λ c. sym (length-take-le _ _ (sizes c).questions_long))
     (λ c κs. search rules)
     returns-2)

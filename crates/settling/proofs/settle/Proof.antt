@@ -10,19 +10,19 @@ use Rattle.settling.proofs.settle.Statement.{statement}
 use Rattle.settling.proofs.settle.Tie as tie
 
 fill-keys-requires : tie.Need-fill_keys-requires
-fill-keys-requires c κs = let q = c.before.before.before.before.before.before.before.before.before.before.before.before.before.requires in (q.1.1.0, keyed_start q.1.0.few refl)
+fill-keys-requires c κs = let q = c.requires in (q.1.1.0, keyed_start q.1.0.few refl)
 
 chain-requires : tie.Need-chain-requires
-chain-requires c κs = let q = c.before.before.before.before.before.before.before.before.before.before.before.before.before.before.before.before.before.before.requires in keyed_chainable q.1.0.few c.before.before.before.before.fill_keys.ensures (omega (arith, q.1.0.few, length-replicate {A = ℕ} 512 0))
+chain-requires c κs = let q = c.requires in keyed_chainable q.1.0.few c.fill_keys.ensures (omega (arith, q.1.0.few, length-replicate {A = ℕ} 512 0))
 
 fill-seen-requires : tie.Need-fill_seen-requires
-fill-seen-requires c κs = let q = c.before.before.before.before.before.before.before.before.before.before.before.before.before.before.before.before.before.before.before.before.before.before.before.before.before.requires in (q.1.0, (c.before.before.before.before.before.before.chain.ensures, refl))
+fill-seen-requires c κs = let q = c.requires in (q.1.0, (c.chain.ensures, refl))
 
 settle-from-requires : tie.Need-settle_from-requires
-settle-from-requires c κs = let q = c.before.before.before.before.before.before.before.before.before.before.before.before.before.before.before.before.before.before.before.before.before.before.before.before.before.before.before.before.before.before.before.before.before.requires in (q.0, ((record { reading = q.1.0; keys_long = omega (arith, q.1.0.few, c.before.before.before.before.before.before.before.before.before.before.before.before.before.before.before.before.before.before.before.fill_keys.ensures.long); apart_room = q.1.1.1.0 }, kept_first q.1.1.1.1.0 q.1.1.1.1.1 c.before.before.before.before.before.before.before.fill_seen.ensures), c.before.before.before.before.before.before.before.before.before.before.before.before.before.before.chain.ensures))
+settle-from-requires c κs = let q = c.requires in (q.0, ((record { reading = q.1.0; keys_long = omega (arith, q.1.0.few, c.fill_keys.ensures.long); apart_room = q.1.1.1.0 }, kept_first q.1.1.1.1.0 q.1.1.1.1.1 c.fill_seen.ensures), c.chain.ensures))
 
 returns : tie.Need-returns
-returns c = let s = c.before.before.before.before.before.before.before.before.before.before.before.before.before.before.before.before.before.before.before.before.before.before.before.before.before.before.before.before.before.before.before.before.before.before.before.before.before.args in done_homes s.points.now s.heights.now s.reads.now s.read-heights.now s.apart.now c.before.before.before.before.before.before.before.before.before.before.before.before.before.before.before.before.before.before.before.before.before.before.before.fill_keys.ensures c.before.before.before.settle_from.ensures
+returns c = let s = c.args in done_homes s.points.now s.heights.now s.reads.now s.read-heights.now s.apart.now c.fill_keys.ensures c.settle_from.ensures
 
 pub settle_spec : {M : Type 1} → statement M
 settle_spec =

@@ -6,7 +6,7 @@ use Rattle.settling.proofs.sweep.Statement.{statement}
 use Rattle.settling.proofs.sweep.Tie as tie
 
 sweep-rows-requires : tie.Need-sweep_rows-requires
-sweep-rows-requires c κs = let q = c.before.before.before.before.before.before.before.before.before.before.before.before.before.before.before.before.before.before.before.before.before.before.before.requires in (q.0, (q.1.0, (q.1.1, refl)))
+sweep-rows-requires c κs = let q = c.requires in (q.0, (q.1.0, (q.1.1, refl)))
 
 pub sweep_spec : {M : Type 1} → statement M
 sweep_spec =

@@ -8,16 +8,16 @@ use Rattle.settling.proofs.sweep_row.Statement.{statement}
 use Rattle.settling.proofs.sweep_row.Tie as tie
 
 mul-rest : tie.Need-overflow_mul-i
-mul-rest c = omega (arith, c.before.before.before.before.before.before.before.before.before.before.before.before.before.before.before.before.before.before.before.before.requires.1.1.1.0, c.before.before.before.before.before.before.before.before.before.before.before.before.before.before.before.before.before.before.before.before.requires.1.0.0.reading.few)
+mul-rest c = omega (arith, c.requires.1.1.1.0, c.requires.1.0.0.reading.few)
 
 mul-rest-2 : tie.Need-overflow_mul-i-2
-mul-rest-2 c = omega (arith, c.before.before.before.before.before.before.before.before.before.before.before.before.before.before.before.before.before.before.before.before.requires.1.1.1.0, c.before.before.before.before.before.before.before.before.before.before.before.before.before.before.before.before.before.before.before.before.requires.1.0.0.reading.few)
+mul-rest-2 c = omega (arith, c.requires.1.1.1.0, c.requires.1.0.0.reading.few)
 
 add-rest : tie.Need-overflow_add-i
-add-rest c = omega (arith, c.before.before.before.before.before.before.before.before.before.before.before.before.before.before.before.before.before.before.before.before.requires.1.1.1.0, c.before.before.before.before.before.before.before.before.before.before.before.before.before.before.before.before.before.before.before.before.requires.1.0.0.reading.few)
+add-rest c = omega (arith, c.requires.1.1.1.0, c.requires.1.0.0.reading.few)
 
 mul-rest-3 : tie.Need-offset_bounds-seen-i
-mul-rest-3 c = omega (arith, c.before.before.before.before.before.before.before.before.before.before.before.before.before.before.before.before.before.before.before.before.requires.1.1.1.0, c.before.before.before.before.before.before.before.before.before.before.before.before.before.before.before.before.before.before.before.before.requires.1.0.0.reading.few)
+mul-rest-3 c = omega (arith, c.requires.1.1.1.0, c.requires.1.0.0.reading.few)
 
 part-rest-start : tie.Need-slice-bounds-rest-start
 part-rest-start c = omega (arith, c.before.before.before.before.before.before.before.before.before.before.before.before.before.before.before.before.before.before.before.before.before.requires.1.1.1.0, c.before.before.before.before.before.before.before.before.before.before.before.before.before.before.before.before.before.before.before.before.before.requires.1.0.0.reading.few, c.before.before.before.before.before.before.before.before.before.before.before.before.before.before.before.before.before.before.before.before.before.requires.1.0.1.long)
@@ -29,10 +29,10 @@ rest-requires : tie.Need-rest-requires
 rest-requires c κs = length-replicate {A = ℕ} 8 0
 
 sweep-words-requires : tie.Need-sweep_words-requires
-sweep-words-requires c κs = let q = c.before.before.before.before.before.before.before.before.before.before.before.before.before.before.before.before.before.before.before.before.before.before.before.before.before.before.before.before.before.requires in (q.0, (q.1.0, (q.1.1.0, (c.before.before.before.before.before.before.before.before.before.before.before.before.before.before.before.before.before.before.before.before.before.before.before.before.before.before.before.before.before.requires.1.1.1.0, fresh_rest c.before.before.before.before.before.before.before.before.before.before.before.before.before.before.before.before.before.before.before.before.before.before.before.before.before.before.before.before.before.args.seen.now (omega (arith, c.before.before.before.before.before.before.before.before.before.before.before.before.before.before.before.before.before.before.before.before.before.before.before.before.before.before.before.before.before.requires.1.1.1.0, c.before.before.before.before.before.before.before.before.before.before.before.before.before.before.before.before.before.before.before.before.before.before.before.before.before.before.before.before.before.requires.1.0.0.reading.few)) c.before.before.before.before.before.before.before.before.before.before.before.before.before.before.before.before.before.before.before.before.before.before.before.before.before.before.before.before.before.requires.1.1.1.1 c.before.before.before.before.before.rest.ensures))))
+sweep-words-requires c κs = let q = c.requires in (q.0, (q.1.0, (q.1.1.0, (c.requires.1.1.1.0, fresh_rest c.args.seen.now (omega (arith, c.requires.1.1.1.0, c.requires.1.0.0.reading.few)) c.requires.1.1.1.1 c.rest.ensures))))
 
 returns : tie.Need-returns
-returns c = row_swept c.before.before.before.before.before.before.before.before.before.before.before.before.before.before.before.before.before.before.before.before.before.before.before.before.before.before.before.before.before.before.before.before.before.before.args.seen.now (omega (arith, c.before.before.before.before.before.before.before.before.before.before.before.before.before.before.before.before.before.before.before.before.before.before.before.before.before.before.before.before.before.before.before.before.before.before.requires.1.1.1.0, c.before.before.before.before.before.before.before.before.before.before.before.before.before.before.before.before.before.before.before.before.before.before.before.before.before.before.before.before.before.before.before.before.before.before.requires.1.0.0.reading.few)) c.before.before.before.before.before.before.before.before.before.before.before.before.before.before.before.before.before.before.before.before.before.before.before.before.before.before.before.before.before.before.before.before.before.before.requires.1.1.1.1 c.before.before.before.before.before.before.before.before.before.before.rest.ensures _ c.before.before.before.before.sweep_words.ensures
+returns c = row_swept c.args.seen.now (omega (arith, c.requires.1.1.1.0, c.requires.1.0.0.reading.few)) c.requires.1.1.1.1 c.rest.ensures _ c.sweep_words.ensures
 
 pub sweep_row_spec : {M : Type 1} → statement M
 sweep_row_spec =

@@ -16,58 +16,58 @@ abbrev decreases-loop : tie.decreases-loop-i
 decreases-loop n limit hosts₀ lead-first lead-next points heights class-first class-next slot-first slot_next keys reads read-heights apart levels from order starts entries pairs₀ seen₀ notes₀ changed₀ i₀ hosts pairs seen notes changed i = n - i
 
 loop-holds : tie.Need-loop-i-init invariant-loop decreases-loop
-loop-holds c = rows_start c.before.before.before.before.before.before.before.before.before.before.before.before.before.before.before.before.before.before.before.before.requires.1.0.1 (zeros_long c.before.before.before.before.before.before.before.before.before.before.before.before.before.before.before.before.before.before.before.before.requires.1.1.1) (λ h. rw c.before.before.before.before.before.before.before.before.before.before.before.before.before.before.before.before.before.before.before.before.requires.1.1.1 (no_numbers 8 h))
+loop-holds c = rows_start c.requires.1.0.1 (zeros_long c.requires.1.1.1) (λ h. rw c.requires.1.1.1 (no_numbers 8 h))
 
 linked-requires : tie.Need-linked-requires invariant-loop decreases-loop
-linked-requires c κs = omega (arith, c.before.before.before.before.before.before.before.before.before.before.before.before.before.before.before.before.before.before.before.before.before.before.requires.1.1.0.starts.long, c.loop-i-test.true, c.before.before.before.before.before.before.before.before.before.before.before.before.before.before.before.before.before.before.before.before.before.before.requires.1.0.0.reading.few)
+linked-requires c κs = omega (arith, c.requires.1.1.0.starts.long, c.loop-i-test.true, c.requires.1.0.0.reading.few)
 
 add-i : tie.Need-overflow_step-i invariant-loop decreases-loop
-add-i c = omega (arith, c.before.before.loop-i-test.true, c.before.before.before.before.before.before.before.before.before.before.before.before.before.before.before.before.before.before.before.before.before.before.before.before.requires.1.0.0.reading.few)
+add-i c = omega (arith, c.loop-i-test.true, c.requires.1.0.0.reading.few)
 
 loop-less : tie.Need-loop-i-smaller-then-n-linked invariant-loop decreases-loop
-loop-less c = omega (arith, c.before.before.loop-i-test.true)
+loop-less c = omega (arith, c.loop-i-test.true)
 
 loop-again : tie.Need-loop-i-preserved-then-n-linked invariant-loop decreases-loop
-loop-again c = rows_skip c.before.before.loop-i-test.true (rw (← c.before.linked.ensures) c.if-n-linked.true) c.before.before.before.loop-i.invariant
+loop-again c = rows_skip c.loop-i-test.true (rw (← c.linked.ensures) c.if-n-linked.true) c.loop-i.invariant
 
 put-requires : tie.Need-put-requires invariant-loop decreases-loop
-put-requires c κs = omega (arith, c.before.before.before.before.loop-i.invariant.long, c.before.before.before.loop-i-test.true, c.before.before.before.before.before.before.before.before.before.before.before.before.before.before.before.before.before.before.before.before.before.before.before.before.before.requires.1.0.0.reading.few)
+put-requires c κs = omega (arith, c.loop-i.invariant.long, c.loop-i-test.true, c.requires.1.0.0.reading.few)
 
 sweep-row-requires : tie.Need-sweep_row-more-requires invariant-loop decreases-loop
-sweep-row-requires c κs = let q = c.before.before.before.before.before.before.before.before.before.before.before.before.before.before.before.before.before.before.before.before.before.before.before.before.before.before.before.before.before.before.before.before.requires in (q.0, ((q.1.0.0, c.before.before.before.before.before.before.before.before.before.before.before.loop.invariant.step.kept), (q.1.1.0, (c.before.before.before.before.before.before.before.before.before.before.loop-test.true, rows_upto c.before.before.before.before.before.before.before.before.before.before.before.loop.invariant c.before.before.before.before.before.before.put.ensures))))
+sweep-row-requires c κs = let q = c.requires in (q.0, ((q.1.0.0, c.loop-i.invariant.step.kept), (q.1.1.0, (c.loop-i-test.true, rows_upto c.loop-i.invariant c.put.ensures))))
 
 same_length : tie.Need-shape_of-hosts-then-changed-is_over invariant-loop decreases-loop
-same_length c = c.before.before.before.before.before.before.before.before.before.before.before.before.before.before.put.ensures.long ∙ c.before.before.before.before.before.before.before.before.before.before.before.before.before.before.before.before.before.before.before.loop.invariant.long ∙ sym (zeros_long c.before.before.before.before.before.before.before.before.before.before.before.before.before.before.before.before.before.before.before.before.before.before.before.before.before.before.before.before.before.before.before.before.before.before.before.before.before.before.before.before.requires.1.1.1)
+same_length c = c.put.ensures.long ∙ c.loop-i.invariant.long ∙ sym (zeros_long c.requires.1.1.1)
 
 same-length-2 : tie.Need-shape_of-pairs-then-changed-is_over invariant-loop decreases-loop
-same-length-2 c = c.before.before.before.before.before.before.before.sweep-row.ensures.step.grows.long ∙ c.before.before.before.before.before.before.before.before.before.before.before.before.before.before.before.before.before.before.before.loop.invariant.step.grows.long
+same-length-2 c = c.sweep_row-more.ensures.step.grows.long ∙ c.loop-i.invariant.step.grows.long
 
 same-length-3 : tie.Need-shape_of-seen-then-changed-is_over invariant-loop decreases-loop
-same-length-3 c = step_long c.before.before.before.before.before.before.before.before.before.before.before.before.before.before.before.before.before.before.before.before.before.before.before.before.before.before.before.before.before.before.before.before.before.before.before.before.before.before.before.before.requires.1.0.1 (step_then c.before.before.before.before.before.before.before.before.before.before.before.before.before.before.before.before.before.before.before.loop.invariant.step c.before.before.before.before.before.before.before.sweep-row.ensures.step)
+same-length-3 c = step_long c.requires.1.0.1 (step_then c.loop-i.invariant.step c.sweep_row-more.ensures.step)
 
 returns : tie.Need-returns-then-changed-is_over invariant-loop decreases-loop
-returns c = rows_left (and_true _ _ c.if-changed-is_over.true).0 c.before.before.before.before.before.before.before.before.before.before.before.before.before.before.before.before.before.before.before.loop.invariant c.before.before.before.before.before.before.before.sweep-row.ensures
+returns c = rows_left (and_true _ _ c.if-changed-is_over.true).0 c.loop-i.invariant c.sweep_row-more.ensures
 
 add-i-2 : tie.Need-overflow_step-i-in-loop-i invariant-loop decreases-loop
-add-i-2 c = omega (arith, c.before.before.before.before.before.before.before.before.before.before.before.before.before.before.before.before.before.before.loop-test.true, c.before.before.before.before.before.before.before.before.before.before.before.before.before.before.before.before.before.before.before.before.before.before.before.before.before.before.before.before.before.before.before.before.before.before.before.before.before.before.before.before.requires.1.0.0.reading.few)
+add-i-2 c = omega (arith, c.loop-i-test.true, c.requires.1.0.0.reading.few)
 
 loop-less-2 : tie.Need-loop-i-smaller invariant-loop decreases-loop
-loop-less-2 c = omega (arith, c.before.before.before.before.before.before.before.before.before.before.before.before.before.before.before.before.before.before.loop-test.true)
+loop-less-2 c = omega (arith, c.loop-i-test.true)
 
 loop-again-2 : tie.Need-loop-i-preserved invariant-loop decreases-loop
-loop-again-2 c = rows_more c.before.before.before.before.before.before.before.before.before.before.before.before.before.before.before.before.before.before.loop-test.true c.before.before.before.before.before.before.before.before.before.before.before.before.before.before.before.before.before.before.before.loop.invariant c.before.before.before.before.before.before.before.before.before.before.before.before.before.before.put.ensures c.before.before.before.before.before.before.before.sweep-row.ensures
+loop-again-2 c = rows_more c.loop-i-test.true c.loop-i.invariant c.put.ensures c.sweep_row-more.ensures
 
 same-length-4 : tie.Need-shape_of-hosts invariant-loop decreases-loop
-same-length-4 c = c.before.loop-i.invariant.long ∙ sym (zeros_long c.before.before.before.before.before.before.before.before.before.before.before.before.before.before.before.before.before.before.before.before.before.before.requires.1.1.1)
+same-length-4 c = c.loop-i.invariant.long ∙ sym (zeros_long c.requires.1.1.1)
 
 same-length-5 : tie.Need-shape_of-pairs invariant-loop decreases-loop
-same-length-5 c = c.before.loop-i.invariant.step.grows.long
+same-length-5 c = c.loop-i.invariant.step.grows.long
 
 same-length-6 : tie.Need-shape_of-seen invariant-loop decreases-loop
-same-length-6 c = step_long c.before.before.before.before.before.before.before.before.before.before.before.before.before.before.before.before.before.before.before.before.before.before.requires.1.0.1 c.before.loop-i.invariant.step
+same-length-6 c = step_long c.requires.1.0.1 c.loop-i.invariant.step
 
 returns-2 : tie.Need-returns invariant-loop decreases-loop
-returns-2 c = rows_done c.before.before.before.before.before.before.before.before.before.before.before.before.before.before.before.before.before.before.before.before.before.before.requires.1.1.0 (omega (arith, c.before.before.before.before.before.before.before.before.before.before.before.before.before.before.before.before.before.before.before.before.before.before.requires.1.0.0.reading.few)) c.loop-i-test.false c.before.loop-i.invariant
+returns-2 c = rows_done c.requires.1.1.0 (omega (arith, c.requires.1.0.0.reading.few)) c.loop-i-test.false c.loop-i.invariant
 
 pub sweep_rows_spec : {M : Type 1} → statement M
 sweep_rows_spec =

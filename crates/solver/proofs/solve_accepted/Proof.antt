@@ -9,35 +9,35 @@ use Rattle.solver.proofs.solve_accepted.Statement.{statement}
 use Rattle.solver.proofs.solve_accepted.Tie as tie
 
 is-consistent-requires : tie.Need-is_consistent-requires
-is-consistent-requires c κs = let s = c.before.before.before.before.before.before.before.before.before.before.before.requires in ((s.accepted, omega (arith, filled_count 1 c.before.before.before.before.before.fill.ensures s.marks)), (s.representatives, s.offsets))
+is-consistent-requires c κs = let s = c.requires in ((s.accepted, omega (arith, filled_count 1 c.fill.ensures s.marks)), (s.representatives, s.offsets))
 
 tell-differences-requires : tie.Need-tell_differences-requires
-tell-differences-requires c κs = let s = c.before.before.before.before.before.before.before.before.before.before.before.before.before.before.before.before.before.before.before.before.before.before.before.before.requires in (labelling _ s.accepted s.few_propositions (ones_kept c.before.before.before.before.before.before.before.before.before.before.before.before.before.before.before.before.before.before.fill.ensures s.marks) c.before.before.before.before.before.before.before.before.before.before.before.before.is-consistent.ensures c.before.before.before.before.before.before.before.before.if1.true, record { accepted = s.accepted_questions; few_questions = s.few_questions; pairs_count = s.pairs; answers_count = s.answers })
+tell-differences-requires c κs = let s = c.requires in (labelling _ s.accepted s.few_propositions (ones_kept c.fill.ensures s.marks) c.is_consistent.ensures c.if-is_consistent.true, record { accepted = s.accepted_questions; few_questions = s.few_questions; pairs_count = s.pairs; answers_count = s.answers })
 
 returns : tie.Need-returns-then-is_consistent
-returns c = let s = c.before.before.before.before.before.before.before.before.before.before.before.before.before.before.before.before.before.before.before.before.before.before.before.before.before.before.before.before.before.requires in let a = c.before.before.before.before.before.before.before.before.before.before.before.before.before.before.before.before.before.before.before.before.before.before.before.before.before.before.before.before.before.args in let ones = ones_kept c.before.before.before.before.before.before.before.before.before.before.before.before.before.before.before.before.before.before.before.before.before.before.before.fill.ensures s.marks in let d = c.before.before.before.before.before.before.before.before.before.before.before.before.before.before.before.before.before.is-consistent.ensures in let yes = c.before.before.before.before.before.before.before.before.before.before.before.before.before.if1.true in
+returns c = let s = c.requires in let a = c.args in let ones = ones_kept c.fill.ensures s.marks in let d = c.is_consistent.ensures in let yes = c.if-is_consistent.true in
     solves_satisfiable _ s.accepted _ _ (labelling _ s.accepted s.few_propositions ones d yes) (not_contradictory _ s.accepted ones d yes) a.blame a.questions.now s.accepted_questions
-    (filled_as 0 c.before.before.before.before.before.before.before.before.before.before.before.fill2.ensures (filled_count 1 c.before.before.before.before.before.before.before.before.before.before.before.before.before.before.before.before.before.before.before.before.before.before.before.fill.ensures s.marks))
-    c.before.before.before.before.tell_differences.ensures.0
-    c.before.before.before.before.tell_differences.ensures.1
+    (filled_as 0 c.fill-then-is_consistent.ensures (filled_count 1 c.fill.ensures s.marks))
+    c.tell_differences.ensures.0
+    c.tell_differences.ensures.1
 
 write-marks-requires : tie.Need-write_marks-requires
-write-marks-requires c κs = let s = c.before.before.before.before.before.before.before.before.before.before.before.before.before.before.before.before.before.before.before.requires in let k = c.before.before.before.before.before.before.before.is_consistent.auto in (record { good = s.accepted; marks_count = filled_count 1 c.before.before.before.before.before.before.before.before.before.before.before.before.before.fill.ensures s.marks; reps_count = k.1.1.1.0 ∙ s.representatives; offs_count = k.1.1.1.1.0 ∙ s.offsets }, ones_kept c.before.before.before.before.before.before.before.before.before.before.before.before.before.fill.ensures s.marks)
+write-marks-requires c κs = let s = c.requires in let k = c.is_consistent.auto in (record { good = s.accepted; marks_count = filled_count 1 c.fill.ensures s.marks; reps_count = k.1.1.1.0 ∙ s.representatives; offs_count = k.1.1.1.1.0 ∙ s.offsets }, ones_kept c.fill.ensures s.marks)
 
 reset-requires : tie.Need-reset-requires
-reset-requires c κs = let s = c.before.before.before.before.before.before.before.before.before.before.before.before.before.before.before.before.before.before.before.before.before.before.before.before.before.before.before.requires in let k = c.before.before.before.before.before.before.before.before.before.before.before.before.before.before.before.is_consistent.auto in let b = c.before.before.before.before.before.before.before.write_marks.auto in
+reset-requires c κs = let s = c.requires in let k = c.is_consistent.auto in let b = c.write_marks.auto in
     let r = b.1.1.1.1.0 ∙ (k.1.1.1.0 ∙ s.representatives) in
     (b.1.1.1.1.1.0 ∙ (k.1.1.1.1.0 ∙ s.offsets) ∙ sym r, rw r s.accepted.few_terms)
 
 returns-2 : tie.Need-returns
-returns-2 c = let s = c.before.before.before.before.before.before.before.before.before.before.before.before.before.before.before.before.before.before.before.before.before.before.before.before.before.before.before.before.before.before.before.before.before.before.before.before.before.before.before.before.requires in let a = c.before.before.before.before.before.before.before.before.before.before.before.before.before.before.before.before.before.before.before.before.before.before.before.before.before.before.before.before.before.before.before.before.before.before.before.before.before.before.before.before.args in let k = c.before.before.before.before.before.before.before.before.before.before.before.before.before.before.before.before.before.before.before.before.before.before.before.before.before.before.before.before.is_consistent.auto in let b = c.before.before.before.before.before.before.before.before.before.before.before.before.before.before.before.before.before.before.before.before.write_marks.auto in
-    solves_contradiction _ s.accepted (is_contradictory_lem _ s.accepted (ones_kept c.before.before.before.before.before.before.before.before.before.before.before.before.before.before.before.before.before.before.before.before.before.before.before.before.before.before.before.before.before.before.before.before.before.before.fill.ensures s.marks) c.before.before.before.before.before.before.before.before.before.before.before.before.before.before.before.before.before.before.before.before.before.before.before.before.before.before.before.before.is_consistent.ensures c.before.before.before.before.before.before.before.before.before.before.before.before.before.before.before.before.before.before.before.before.before.before.before.before.if-is_consistent.false) a.blame a.questions.now
+returns-2 c = let s = c.requires in let a = c.args in let k = c.is_consistent.auto in let b = c.write_marks.auto in
+    solves_contradiction _ s.accepted (is_contradictory_lem _ s.accepted (ones_kept c.fill.ensures s.marks) c.is_consistent.ensures c.if-is_consistent.false) a.blame a.questions.now
     (b.1.1.1.1.0 ∙ (k.1.1.1.0 ∙ s.representatives))
     (b.1.1.1.1.1.0 ∙ (k.1.1.1.1.0 ∙ s.offsets))
-    c.before.before.before.before.before.before.before.before.before.before.before.before.reset.ensures
-    c.before.before.before.before.before.before.before.before.before.before.before.before.before.before.before.before.before.before.before.before.write_marks.ensures
-    (filled_as 0 c.before.before.before.before.before.before.before.fill-2.ensures s.pairs)
-    (filled_as 3 (rw c.before.before.before.answer_number.ensures at c.before.before.fill-3.ensures) s.answers)
+    c.reset.ensures
+    c.write_marks.ensures
+    (filled_as 0 c.fill-2.ensures s.pairs)
+    (filled_as 3 (rw c.answer_number.ensures at c.fill-3.ensures) s.answers)
 
 pub solve_accepted_spec : {M : Type 1} → statement M
 solve_accepted_spec =

@@ -6,11 +6,11 @@ use Rattle.writer.proofs.put_answer.Tie as tie
 
 put-line-requires : tie.Need-put_line-requires
 unfolding bytes
-put-line-requires c κs = rw (c.before.before.before.byte_of.ensures, c.before.before.byte_of-2.ensures) c.before.before.before.before.before.requires
+put-line-requires c κs = rw (c.byte_of.ensures, c.byte_of-2.ensures) c.requires
 
 returns : tie.Need-returns
 unfolding bytes
-returns c = rw (c.before.before.before.before.before.before.byte_of.ensures, c.before.before.before.before.before.byte_of-2.ensures) at c.before.before.put_line.ensures
+returns c = rw (c.byte_of.ensures, c.byte_of-2.ensures) at c.put_line.ensures
 
 pub put_answer_spec : {M : Type 1} → statement M
 put_answer_spec =

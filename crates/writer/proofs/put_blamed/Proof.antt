@@ -7,17 +7,17 @@ use Rattle.writer.proofs.put_blamed.Statement.{statement}
 use Rattle.writer.proofs.put_blamed.Tie as tie
 
 returns : tie.Need-returns-then-mark-eq0
-returns c = rw (blame_unmarked c.before.before.args.proposition.0 c.before.before.args.mark c.if-mark-eq0.true) (appended_none _ _)
+returns c = rw (blame_unmarked c.args.proposition.0 c.args.mark c.if-mark-eq0.true) (appended_none _ _)
 
 put-line-requires : tie.Need-put_line-requires
 unfolding bytes
-put-line-requires c κs = let s = c.before.before.before.before.before.before in
-    rw (c.before.before.before.byte_of.ensures, c.before.before.byte_of-2.ensures) (rw (blame_marked s.args.proposition.0 s.args.mark c.before.before.before.before.if-mark-eq0.false) at s.requires)
+put-line-requires c κs = let s = c in
+    rw (c.byte_of.ensures, c.byte_of-2.ensures) (rw (blame_marked s.args.proposition.0 s.args.mark c.if-mark-eq0.false) at s.requires)
 
 returns-2 : tie.Need-returns
 unfolding bytes
-returns-2 c = let s = c.before.before.before.before.before.before.before.before.before in
-    rw (blame_marked s.args.proposition.0 s.args.mark c.before.before.before.before.before.before.before.if-mark-eq0.false) (rw (c.before.before.before.before.before.before.byte_of.ensures, c.before.before.before.before.before.byte_of-2.ensures) at c.before.before.put_line.ensures)
+returns-2 c = let s = c in
+    rw (blame_marked s.args.proposition.0 s.args.mark c.if-mark-eq0.false) (rw (c.byte_of.ensures, c.byte_of-2.ensures) at c.put_line.ensures)
 
 pub put_blamed_spec : {M : Type 1} → statement M
 put_blamed_spec =

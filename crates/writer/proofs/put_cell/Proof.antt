@@ -4,16 +4,16 @@ use Rattle.writer.proofs.put_cell.Statement.{statement}
 use Rattle.writer.proofs.put_cell.Tie as tie
 
 put-blamed-requires : tie.Need-put_blamed-requires
-put-blamed-requires c κs = rw c.before.if-blamed.true at c.before.before.before.requires
+put-blamed-requires c κs = rw c.if-blamed.true at c.requires
 
 put-answer-requires : tie.Need-put_answer-requires
-put-answer-requires c κs = rw c.before.if-blamed.false at c.before.before.before.requires
+put-answer-requires c κs = rw c.if-blamed.false at c.requires
 
 returns : tie.Need-returns-then-blamed
-returns c = rw c.before.before.before.before.if-blamed.true c.before.before.put_blamed.ensures
+returns c = rw c.if-blamed.true c.put_blamed.ensures
 
 returns-2 : tie.Need-returns-else-blamed
-returns-2 c = rw c.before.before.before.before.if-blamed.false c.before.before.put_answer.ensures
+returns-2 c = rw c.if-blamed.false c.put_answer.ensures
 
 pub put_cell_spec : {M : Type 1} → statement M
 put_cell_spec =

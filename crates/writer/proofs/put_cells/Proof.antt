@@ -18,33 +18,33 @@ loop-holds : tie.Need-loop-k-init invariant-loop decreases-loop
 loop-holds c = (omega arith, remaining_start _ _ _)
 
 shared-slice-read-put-cell : tie.Need-bounds-cells-k invariant-loop decreases-loop
-shared-slice-read-put-cell c = omega (arith, c.before.before.loop-k-test.true)
+shared-slice-read-put-cell c = omega (arith, c.loop-k-test.true)
 
 put-cell-requires : tie.Need-put_cell-next-requires invariant-loop decreases-loop
-put-cell-requires c κs = let l = c.before.before.before.loop-k in
-    let s = c.before.before.before.before.before.before in
-    let R = rw (cells_next (cell_frame s.args.blamed) s.args.cells.now l.k c.before.before.loop-k-test.true) at l.invariant.1 in
+put-cell-requires c κs = let l = c.loop-k in
+    let s = c in
+    let R = rw (cells_next (cell_frame s.args.blamed) s.args.cells.now l.k c.loop-k-test.true) at l.invariant.1 in
     omega (arith, remaining_fits _ _ _ _ _ _ s.requires R, length-append (cell_frame s.args.blamed l.k (get_or s.args.cells.now l.k 0)) (cell_frames (cell_frame s.args.blamed) (l.k + 1) (drop (l.k + 1) s.args.cells.now)))
 
 add-k : tie.Need-overflow_step-k invariant-loop decreases-loop
-add-k c = omega (arith, c.before.before.before.before.before.loop-k-test.true)
+add-k c = omega (arith, c.loop-k-test.true)
 
 loop-less : tie.Need-loop-k-smaller invariant-loop decreases-loop
-loop-less c = omega (arith, c.before.before.before.before.before.loop-k-test.true)
+loop-less c = omega (arith, c.loop-k-test.true)
 
 loop-again : tie.Need-loop-k-preserved invariant-loop decreases-loop
-loop-again c = let l = c.before.before.before.before.before.before.loop-k in
-    let s = c.before.before.before.before.before.before.before.before.before in (
-      omega (arith, c.before.before.before.before.before.loop-k-test.true),
-      remaining_next _ _ _ (cell_frame s.args.blamed l.k (get_or s.args.cells.now l.k 0)) (cell_frames (cell_frame s.args.blamed) (l.k + 1) (drop (l.k + 1) s.args.cells.now)) _ _ _ _ (rw (cells_next (cell_frame s.args.blamed) s.args.cells.now l.k c.before.before.before.before.before.loop-k-test.true) at l.invariant.1) c.before.before.put_cell-next.ensures,
+loop-again c = let l = c.loop-k in
+    let s = c in (
+      omega (arith, c.loop-k-test.true),
+      remaining_next _ _ _ (cell_frame s.args.blamed l.k (get_or s.args.cells.now l.k 0)) (cell_frames (cell_frame s.args.blamed) (l.k + 1) (drop (l.k + 1) s.args.cells.now)) _ _ _ _ (rw (cells_next (cell_frame s.args.blamed) s.args.cells.now l.k c.loop-k-test.true) at l.invariant.1) c.put_cell-next.ensures,
     )
 
 same_length : tie.Need-shape_of-out invariant-loop decreases-loop
-same_length c = c.before.loop-k.invariant.1.long
+same_length c = c.loop-k.invariant.1.long
 
 returns : tie.Need-returns invariant-loop decreases-loop
-returns c = let s = c.before.before.before.before in
-    remaining_end _ _ _ _ _ (rw (cells_end (cell_frame s.args.blamed) s.args.cells.now c.before.loop-k.k c.loop-k-test.false) at c.before.loop-k.invariant.1)
+returns c = let s = c in
+    remaining_end _ _ _ _ _ (rw (cells_end (cell_frame s.args.blamed) s.args.cells.now c.loop-k.k c.loop-k-test.false) at c.loop-k.invariant.1)
 
 pub put_cells_spec : {M : Type 1} → statement M
 put_cells_spec =

@@ -9,11 +9,11 @@ use Rattle.writer.proofs.put_label.Tie as tie
 
 put-line-requires : tie.Need-put_line-requires
 unfolding bytes
-put-line-requires c κs = rw (c.before.before.before.before.before.before.before.before.before.before.before.before.before.byte_of.ensures, c.before.before.before.before.before.before.before.before.before.before.before.before.byte_of-2.ensures, c.before.before.before.before.before.before.before.before.before.before.before.byte_of-3.ensures, c.before.before.before.before.before.before.before.before.before.before.byte_of-4.ensures, c.before.before.before.before.before.before.before.before.before.byte_of-5.ensures, c.before.before.before.before.before.before.before.before.byte_of-6.ensures, c.before.before.before.before.before.before.before.byte_of-7.ensures, c.before.before.before.before.before.before.byte_of-8.ensures, c.before.before.before.before.before.byte_of-9.ensures, c.before.before.before.before.byte_of-10.ensures, c.before.before.before.byte_of-11.ensures, c.before.before.byte_of-12.ensures, c.before.before.before.before.before.before.before.before.before.before.before.before.before.before.bits-o.ensures, to_z-of_z w64 c.before.before.before.before.before.before.before.before.before.before.before.before.before.before.before.before.args.offset c.before.before.before.before.before.before.before.before.before.before.before.before.before.before.before.before.ranges.offset, bits_unsigned c.before.before.before.before.before.before.before.before.before.before.before.before.before.before.before.before.args.offset) c.before.before.before.before.before.before.before.before.before.before.before.before.before.before.before.before.requires
+put-line-requires c κs = rw (c.byte_of.ensures, c.byte_of-2.ensures, c.byte_of-3.ensures, c.byte_of-4.ensures, c.byte_of-5.ensures, c.byte_of-6.ensures, c.byte_of-7.ensures, c.byte_of-8.ensures, c.byte_of-9.ensures, c.byte_of-10.ensures, c.byte_of-11.ensures, c.byte_of-12.ensures, c.bits-o.ensures, to_z-of_z w64 c.args.offset c.ranges.offset, bits_unsigned c.args.offset) c.requires
 
 returns : tie.Need-returns
 unfolding bytes
-returns c = rw (c.before.before.before.before.before.before.before.before.before.before.before.before.before.before.before.before.byte_of.ensures, c.before.before.before.before.before.before.before.before.before.before.before.before.before.before.before.byte_of-2.ensures, c.before.before.before.before.before.before.before.before.before.before.before.before.before.before.byte_of-3.ensures, c.before.before.before.before.before.before.before.before.before.before.before.before.before.byte_of-4.ensures, c.before.before.before.before.before.before.before.before.before.before.before.before.byte_of-5.ensures, c.before.before.before.before.before.before.before.before.before.before.before.byte_of-6.ensures, c.before.before.before.before.before.before.before.before.before.before.byte_of-7.ensures, c.before.before.before.before.before.before.before.before.before.byte_of-8.ensures, c.before.before.before.before.before.before.before.before.byte_of-9.ensures, c.before.before.before.before.before.before.before.byte_of-10.ensures, c.before.before.before.before.before.before.byte_of-11.ensures, c.before.before.before.before.before.byte_of-12.ensures, c.before.before.before.before.before.before.before.before.before.before.before.before.before.before.before.before.before.bits-o.ensures, to_z-of_z w64 c.before.before.before.before.before.before.before.before.before.before.before.before.before.before.before.before.before.before.before.args.offset c.before.before.before.before.before.before.before.before.before.before.before.before.before.before.before.before.before.before.before.ranges.offset, bits_unsigned c.before.before.before.before.before.before.before.before.before.before.before.before.before.before.before.before.before.before.before.args.offset) at c.before.before.put_line.ensures
+returns c = rw (c.byte_of.ensures, c.byte_of-2.ensures, c.byte_of-3.ensures, c.byte_of-4.ensures, c.byte_of-5.ensures, c.byte_of-6.ensures, c.byte_of-7.ensures, c.byte_of-8.ensures, c.byte_of-9.ensures, c.byte_of-10.ensures, c.byte_of-11.ensures, c.byte_of-12.ensures, c.bits-o.ensures, to_z-of_z w64 c.args.offset c.ranges.offset, bits_unsigned c.args.offset) at c.put_line.ensures
 
 pub put_label_spec : {M : Type 1} → statement M
 put_label_spec =

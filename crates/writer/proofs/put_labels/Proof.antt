@@ -22,45 +22,45 @@ loop-holds : tie.Need-loop-t-init invariant-loop decreases-loop
 loop-holds c = (omega arith, remaining_start _ _ _)
 
 mul-put-label : tie.Need-offset_bounds-representatives-t invariant-loop decreases-loop
-mul-put-label c = omega (arith, c.before.loop-t-test.true, c.before.before.before.before.before.requires.0, c.before.before.before.before.before.well_formed)
+mul-put-label c = omega (arith, c.loop-t-test.true, c.requires.0, c.well_formed)
 
 shared-slice-read-put-label : tie.Need-bounds-representatives-t invariant-loop decreases-loop
-shared-slice-read-put-label c = omega (arith, c.before.before.loop-t-test.true, c.before.before.before.before.before.before.requires.0)
+shared-slice-read-put-label c = omega (arith, c.loop-t-test.true, c.requires.0)
 
 mul-put-label-2 : tie.Need-offset_bounds-offsets-t invariant-loop decreases-loop
-mul-put-label-2 c = omega (arith, c.before.before.loop-t-test.true, c.before.before.before.before.before.before.requires.0, c.before.before.before.before.before.before.well_formed)
+mul-put-label-2 c = omega (arith, c.loop-t-test.true, c.requires.0, c.well_formed)
 
 shared-slice-copy-out-put-label : tie.Need-bounds-offsets-t invariant-loop decreases-loop
-shared-slice-copy-out-put-label c = omega (arith, c.before.before.loop-t-test.true, c.before.before.before.before.before.before.requires.0)
+shared-slice-copy-out-put-label c = omega (arith, c.loop-t-test.true, c.requires.0)
 
 put-label-requires : tie.Need-put_label-next-requires invariant-loop decreases-loop
-put-label-requires c κs = let l = c.before.before.before.before.loop-t in
-    let s = c.before.before.before.before.before.before.before in
-    let R = rw (labels_next s.args.representatives.now s.args.offsets.now l.t s.requires.0 c.before.before.before.loop-t-test.true) at l.invariant.1 in
+put-label-requires c κs = let l = c.loop-t in
+    let s = c in
+    let R = rw (labels_next s.args.representatives.now s.args.offsets.now l.t s.requires.0 c.loop-t-test.true) at l.invariant.1 in
     let F = remaining_fits _ _ _ _ _ _ s.requires.1 R in
     rw (to_z-of_z w64 (get_or s.args.offsets.now l.t (pos 0)) (sfits_of {z = get_or s.args.offsets.now l.t (pos 0)} c.put_label-arg-in-loop-t-1.given)) (omega (arith, F, length-append (label_frame l.t (get_or s.args.representatives.now l.t 0) (get_or s.args.offsets.now l.t (pos 0))) (label_frames (l.t + 1) (drop (l.t + 1) s.args.representatives.now) (drop (l.t + 1) s.args.offsets.now))))
 
 add-t : tie.Need-overflow_step-t invariant-loop decreases-loop
-add-t c = omega (arith, c.before.before.before.before.before.before.loop-t-test.true)
+add-t c = omega (arith, c.loop-t-test.true)
 
 loop-less : tie.Need-loop-t-smaller invariant-loop decreases-loop
-loop-less c = omega (arith, c.before.before.before.before.before.before.loop-t-test.true)
+loop-less c = omega (arith, c.loop-t-test.true)
 
 loop-again : tie.Need-loop-t-preserved invariant-loop decreases-loop
-loop-again c = let l = c.before.before.before.before.before.before.before.loop-t in
-    let s = c.before.before.before.before.before.before.before.before.before.before in (
-      omega (arith, c.before.before.before.before.before.before.loop-t-test.true),
+loop-again c = let l = c.loop-t in
+    let s = c in (
+      omega (arith, c.loop-t-test.true),
       remaining_next _ _ _ (label_frame l.t (get_or s.args.representatives.now l.t 0) (get_or s.args.offsets.now l.t (pos 0))) (label_frames (l.t + 1) (drop (l.t + 1) s.args.representatives.now) (drop (l.t + 1) s.args.offsets.now)) _ _ _ _
-          (rw (labels_next s.args.representatives.now s.args.offsets.now l.t s.requires.0 c.before.before.before.before.before.before.loop-t-test.true) at l.invariant.1)
-          (rw (to_z-of_z w64 (get_or s.args.offsets.now l.t (pos 0)) (sfits_of {z = get_or s.args.offsets.now l.t (pos 0)} c.before.before.before.put_label-arg-in-loop-t-1.given)) at c.before.before.put_label-next.ensures),
+          (rw (labels_next s.args.representatives.now s.args.offsets.now l.t s.requires.0 c.loop-t-test.true) at l.invariant.1)
+          (rw (to_z-of_z w64 (get_or s.args.offsets.now l.t (pos 0)) (sfits_of {z = get_or s.args.offsets.now l.t (pos 0)} c.put_label-arg-in-loop-t-1.given)) at c.put_label-next.ensures),
     )
 
 same_length : tie.Need-shape_of-out invariant-loop decreases-loop
-same_length c = c.before.loop-t.invariant.1.long
+same_length c = c.loop-t.invariant.1.long
 
 returns : tie.Need-returns invariant-loop decreases-loop
-returns c = let s = c.before.before.before.before in
-    remaining_end _ _ _ _ _ (rw (labels_end s.args.representatives.now s.args.offsets.now c.before.loop-t.t s.requires.0 c.loop-t-test.false) at c.before.loop-t.invariant.1)
+returns c = let s = c in
+    remaining_end _ _ _ _ _ (rw (labels_end s.args.representatives.now s.args.offsets.now c.loop-t.t s.requires.0 c.loop-t-test.false) at c.loop-t.invariant.1)
 
 pub put_labels_spec : {M : Type 1} → statement M
 put_labels_spec =

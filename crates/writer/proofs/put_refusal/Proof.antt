@@ -7,11 +7,11 @@ use Rattle.writer.proofs.put_refusal.Tie as tie
 
 put-line-requires : tie.Need-put_line-requires
 unfolding bytes
-put-line-requires c κs = rw (c.before.before.before.before.refusal_number.ensures, c.before.before.before.byte_of.ensures, c.before.before.byte_of-2.ensures) (omega (arith, c.before.before.before.before.before.before.requires))
+put-line-requires c κs = rw (c.refusal_number.ensures, c.byte_of.ensures, c.byte_of-2.ensures) (omega (arith, c.requires))
 
 returns : tie.Need-returns
 unfolding bytes
-returns c = rw (c.before.before.before.before.before.before.before.refusal_number.ensures, c.before.before.before.before.before.before.byte_of.ensures, c.before.before.before.before.before.byte_of-2.ensures) at c.before.before.put_line.ensures
+returns c = rw (c.refusal_number.ensures, c.byte_of.ensures, c.byte_of-2.ensures) at c.put_line.ensures
 
 pub put_refusal_spec : {M : Type 1} → statement M
 put_refusal_spec =

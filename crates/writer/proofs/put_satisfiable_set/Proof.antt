@@ -7,20 +7,20 @@ use Rattle.writer.proofs.put_satisfiable_set.Statement.{statement}
 use Rattle.writer.proofs.put_satisfiable_set.Tie as tie
 
 put-satisfiable-requires : tie.Need-put_satisfiable-labels-requires
-put-satisfiable-requires c κs = let s = c.before.before.before.before in
+put-satisfiable-requires c κs = let s = c in
     first_fits s.args.out.now (verdict_frame Satisfiable) (label_frames 0 s.args.representatives.now s.args.offsets.now) (answer_frames s.args.answers.now) s.requires.1
 
 put-labels-requires : tie.Need-put_labels-questions-requires
-put-labels-requires c κs = let s = c.before.before.before.before.before.before.before.before in
-    (s.requires.0, second_fits s.args.out.now (verdict_frame Satisfiable) (label_frames 0 s.args.representatives.now s.args.offsets.now) (answer_frames s.args.answers.now) s.requires.1 _ _ c.before.before.before.put_satisfiable-labels.ensures)
+put-labels-requires c κs = let s = c in
+    (s.requires.0, second_fits s.args.out.now (verdict_frame Satisfiable) (label_frames 0 s.args.representatives.now s.args.offsets.now) (answer_frames s.args.answers.now) s.requires.1 _ _ c.put_satisfiable-labels.ensures)
 
 put-cells-requires : tie.Need-put_cells-requires
-put-cells-requires c κs = let s = c.before.before.before.before.before.before.before.before.before.before.before.before in
-    third_fits s.args.out.now (verdict_frame Satisfiable) (label_frames 0 s.args.representatives.now s.args.offsets.now) (answer_frames s.args.answers.now) s.requires.1 _ _ c.before.before.before.before.before.before.before.put_satisfiable-labels.ensures _ _ c.before.before.before.put_labels-questions.ensures
+put-cells-requires c κs = let s = c in
+    third_fits s.args.out.now (verdict_frame Satisfiable) (label_frames 0 s.args.representatives.now s.args.offsets.now) (answer_frames s.args.answers.now) s.requires.1 _ _ c.put_satisfiable-labels.ensures _ _ c.put_labels-questions.ensures
 
 returns : tie.Need-returns
-returns c = let s = c.before.before.before.before.before.before.before.before.before.before.before.before.before.before.before in
-    all_written s.args.out.now (verdict_frame Satisfiable) (label_frames 0 s.args.representatives.now s.args.offsets.now) (answer_frames s.args.answers.now) s.requires.1 _ _ c.before.before.before.before.before.before.before.before.before.before.put_satisfiable-labels.ensures _ _ c.before.before.before.before.before.before.put_labels-questions.ensures _ _ c.before.before.put_cells.ensures
+returns c = let s = c in
+    all_written s.args.out.now (verdict_frame Satisfiable) (label_frames 0 s.args.representatives.now s.args.offsets.now) (answer_frames s.args.answers.now) s.requires.1 _ _ c.put_satisfiable-labels.ensures _ _ c.put_labels-questions.ensures _ _ c.put_cells.ensures
 
 pub put_satisfiable_set_spec : {M : Type 1} → statement M
 put_satisfiable_set_spec =

@@ -6,11 +6,11 @@ use Rattle.columns.proofs.answering.answer_all.Statement.{statement}
 use Rattle.columns.proofs.answering.answer_all.Tie as tie
 
 chain-places-requires : tie.Need-chain_places-requires
-chain-places-requires c κs = let C = c.before.before.before.before.before.before.before.before.before.before.before.before.before.before.before.requires.0.0.reading in (C, (refl, (omega (arith, C.few), (refl, omega (arith, C.few)))))
+chain-places-requires c κs = let C = c.requires.0.0.reading in (C, (refl, (omega (arith, C.few), (refl, omega (arith, C.few)))))
 
 answer-each-requires : tie.Need-answer_each-requires
-answer-each-requires c κs = let p = c.before.before.before.before.before.before.before.before.before.before.before.before.before.before.before.before.before.before.before.before.before.before.before.before.before.before.before.before.before.before.before.before.before.before.before.requires in
-    (record { chained = c.before.before.before.before.before.before.before.before.before.before.before.before.before.before.before.before.before.before.before.chain_places.ensures; sides = p.0.0.sides; by_distance = c.before.before.before.before.before.before.before.before.before.before.before.before.chain_sides.ensures; apart_room = p.0.0.apart_room; pairs_room = p.0.1 }, p.1.0)
+answer-each-requires c κs = let p = c.requires in
+    (record { chained = c.chain_places.ensures; sides = p.0.0.sides; by_distance = c.chain_sides.ensures; apart_room = p.0.0.apart_room; pairs_room = p.0.1 }, p.1.0)
 
 pub answer_all_spec : {M : Type 1} → statement M
 answer_all_spec =

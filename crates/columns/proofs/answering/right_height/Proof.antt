@@ -13,28 +13,28 @@ use Rattle.columns.proofs.answering.right_height.Statement.{statement}
 use Rattle.columns.proofs.answering.right_height.Tie as tie
 
 mul-moved : tie.Need-offset_bounds-offs-right
-mul-moved c = let s = c.before.before.before.before in
-    let e = c.index-right.ensures ∙ ap (λ (r : QuestionRecord). r.right) c.before.question_at-r.ensures in
+mul-moved c = let s = c in
+    let e = c.index-right.ensures ∙ ap (λ (r : QuestionRecord). r.right) c.question_at-r.ensures in
     omega (arith, (asked_below _ _ _ s.requires.1.0 s.args.k.0 s.requires.1.1).1, s.requires.0.few)
 
 shared-slice-copy-out-moved : tie.Need-bounds-offs-right
-shared-slice-copy-out-moved c = let s = c.before.before.before.before in
-    let e = c.index-right.ensures ∙ ap (λ (r : QuestionRecord). r.right) c.before.question_at-r.ensures in
+shared-slice-copy-out-moved c = let s = c in
+    let e = c.index-right.ensures ∙ ap (λ (r : QuestionRecord). r.right) c.question_at-r.ensures in
     omega (arith, (asked_below _ _ _ s.requires.1.0 s.args.k.0 s.requires.1.1).1, s.requires.0.offs_long)
 
 moved-requires : tie.Need-moved-requires
-moved-requires c κs = let s = c.before.before.before.before.before.before in
-    let record_is = c.before.before.before.question_at-r.ensures in
-    let e = c.before.before.index-right.ensures ∙ ap (λ (r : QuestionRecord). r.right) record_is in
+moved-requires c κs = let s = c in
+    let record_is = c.question_at-r.ensures in
+    let e = c.index-right.ensures ∙ ap (λ (r : QuestionRecord). r.right) record_is in
     let o = ap (λ (r : QuestionRecord). r.offset) record_is in
-    rw (to_z-of_z w64 c.before.before.before.question_at-r.result.offset (sfits_of c.struct_told-1.given.1.0.1), to_z-of_z w64 _ (sfits_of c.before.moved-arg-1.given), o, e)
+    rw (to_z-of_z w64 c.question_at-r.result.offset (sfits_of c.struct_told-1.given.1.0.1), to_z-of_z w64 _ (sfits_of c.moved-arg-1.given), o, e)
     (fits_within (asked_fits _ _ _ s.requires.1.0 s.args.k.0 s.requires.1.1), s.requires.0.near _ (asked_below _ _ _ s.requires.1.0 s.args.k.0 s.requires.1.1).1)
 
 returns : tie.Need-returns
-returns c = let record_is = c.before.before.before.before.question_at-r.ensures in
-    let e = c.before.before.before.index-right.ensures ∙ ap (λ (r : QuestionRecord). r.right) record_is in
+returns c = let record_is = c.question_at-r.ensures in
+    let e = c.index-right.ensures ∙ ap (λ (r : QuestionRecord). r.right) record_is in
     let o = ap (λ (r : QuestionRecord). r.offset) record_is in
-    rw (to_z-of_z w64 c.before.before.before.before.question_at-r.result.offset (sfits_of c.before.struct_told-1.given.1.0.1), to_z-of_z w64 _ (sfits_of c.before.before.moved-arg-1.given), o, e) at c.moved.ensures
+    rw (to_z-of_z w64 c.question_at-r.result.offset (sfits_of c.struct_told-1.given.1.0.1), to_z-of_z w64 _ (sfits_of c.moved-arg-1.given), o, e) at c.moved.ensures
 
 pub right_height_spec : {M : Type 1} → statement M
 right_height_spec = tie.close (tie.spec (λ c κs. search rules) (λ c κs. search rules) mul-moved shared-slice-copy-out-moved moved-requires returns)

@@ -19,36 +19,36 @@ abbrev decreases-loop : tie.decreases-loop-p
 decreases-loop terms propositions marks parents₀ offsets₀ p₀ p-end parents offsets p = length propositions - p
 
 loop-holds : tie.Need-loop-p-init invariant-loop decreases-loop
-loop-holds c = let s = c.before.before in (omega arith, (refl, (refl, equalities_start _ _ s.requires.0.0 s.requires.0.1)))
+loop-holds c = let s = c in (omega arith, (refl, (refl, equalities_start _ _ s.requires.0.0 s.requires.0.1)))
 
 join-equality-requires : tie.Need-join_equality-requires invariant-loop decreases-loop
 join-equality-requires c κs =
-    let l = c.before.before.before in
-    let s = l.before.before.before in
-    ((s.requires.0.0, equalities_live _ _ s.requires.0.0 l.loop-p.invariant.1.1.1), (s.requires.1, omega (arith, c.before.before.loop-p-test.true)))
+    let l = c in
+    let s = l in
+    ((s.requires.0.0, equalities_live _ _ s.requires.0.0 l.loop-p.invariant.1.1.1), (s.requires.1, omega (arith, c.loop-p-test.true)))
 
 returns : tie.Need-returns-then-not-join_equality invariant-loop decreases-loop
 returns c =
-    let j = c.before.before.before.before in
-    let s = j.before.before.before.before.before.before.before in
-    advanced_off _ _ s.requires.0.0 (rw (not-true j.join_equality.result c.if-not-join_equality.true) at j.join_equality.ensures)
+    let j = c in
+    let s = j in
+    advanced_off _ _ s.requires.0.0 (rw (c.if-not-join_equality.true) at j.join_equality.ensures)
 
 loop-again : tie.Need-loop-p-preserved invariant-loop decreases-loop
 loop-again c =
-    let j = c.before.before.before.before in
-    let l = j.before.before.before.before in
-    let s = l.before.before.before in
+    let j = c in
+    let l = j in
+    let s = l in
     let h = l.loop-p.invariant in
-    let b = j.before.before.before.loop-p-test.true in
+    let b = j.loop-p-test.true in
     let lengths = j.join_equality.auto.1.1.1 in (
       omega arith,
-      (lengths.0 ∙ h.1.0, (lengths.1.0 ∙ h.1.1.0, equalities_next _ _ s.requires.0.0 b h.1.1.1 (rw (not-false j.join_equality.result c.if-not-join_equality.false) at j.join_equality.ensures))),
+      (lengths.0 ∙ h.1.0, (lengths.1.0 ∙ h.1.1.0, equalities_next _ _ s.requires.0.0 b h.1.1.1 (rw (c.if-not-join_equality.false) at j.join_equality.ensures))),
     )
 
 returns-2 : tie.Need-returns invariant-loop decreases-loop
 returns-2 c =
-    let l = c.before.loop-p in
-    let e : l.p ≡ length c.before.before.before.before.args.propositions.now = omega (arith, l.invariant.0, c.loop-p-test.false) in
+    let l = c.loop-p in
+    let e : l.p ≡ length c.args.propositions.now = omega (arith, l.invariant.0, c.loop-p-test.false) in
     rw e at l.invariant.1.1.1
 
 pub join_equalities_spec : {M : Type 1} → statement M

@@ -18,19 +18,19 @@ use Rattle.consistency.proofs.equalities.join_equality.Statement.{statement}
 use Rattle.consistency.proofs.equalities.join_equality.Tie as tie
 
 returns : tie.Need-returns-then-marks-k-eq0
-returns c = let s = c.before.before.before.before in advance_none _ _ s.requires.0.0 s.requires.0.1 (λ k e. dropped s.args.marks.now s.args.p.0 c.if-marks-k-eq0.true k)
+returns c = let s = c in advance_none _ _ s.requires.0.0 s.requires.0.1 (λ k e. dropped s.args.marks.now s.args.p.0 c.if-marks-k-eq0.true k)
 
 returns-2 : tie.Need-returns-then-r-ne-EQUALITY
 returns-2 c =
-    let r = c.before.before in
-    let s = r.before.before.before.before.before in
+    let r = c in
+    let s = r in
     advance_none _ _ s.requires.0.0 s.requires.0.1 (λ k e. (rw r.proposition_at-r.ensures at c.if-r-ne-EQUALITY.true) e)
 
 join-requires : tie.Need-join-requires
 join-requires c κs =
-    let indices = c.before.before.before in
-    let r = indices.before.before.before.before in
-    let s = r.before.before.before.before.before in
+    let indices = c in
+    let r = indices in
+    let s = r in
     let good = s.requires.0.0 in
     let live = s.requires.0.1 in
     let sides = sides_below _ _ _ good.propositions s.args.p.0 s.requires.1.1 in
@@ -38,7 +38,7 @@ join-requires c κs =
     let e = r.proposition_at-r.ensures in (
       (live.links, labels_near (live_labels _ _ good live)),
       (
-        rw (indices.before.index.ensures, e, live.count) (omega (arith, sides.0, sides.1)),
+        rw (indices.index.ensures, e, live.count) (omega (arith, sides.0, sides.1)),
         (rw (indices.index-2.ensures, e, live.count) (omega (arith, sides.0, sides.1)), rw (to_z-of_z w64 _ (sfits_of c.struct_told-1.given.1.1.0.1), e) near),
       ),
     )
@@ -53,9 +53,9 @@ proposition s = proposition_in s.args.propositions.now s.args.p.0
 -- what is joined is a kept equality
 kept : (c : tie.After-join) → (is_kept (start c).args.marks.now (start c).args.p.0 ≡ true) × ((proposition (start c)).kind ≡ equality_kind)
 kept c =
-    let t = c.before.before.before.before.before.before in
-    let r = t.before.before in
-    (marked (start c).args.marks.now (start c).args.p.0 r.before.if-marks-k-eq0.false, rw r.proposition_at-r.ensures at t.if-r-ne-EQUALITY.false)
+    let t = c in
+    let r = t in
+    (marked (start c).args.marks.now (start c).args.p.0 r.if-marks-k-eq0.false, rw r.proposition_at-r.ensures at t.if-r-ne-EQUALITY.false)
 
 -- at its own sides and offset
 equated :
@@ -65,28 +65,28 @@ equated :
     let x = proposition s in
     Equated s.args.parents.now s.args.offsets.now c.join.new.0 c.join.new.1.0 x.left x.offset x.right r
 equated c told =
-    let indices = c.before.before.before.before in
-    let e = indices.before.before.before.before.proposition_at-r.ensures in
+    let indices = c in
+    let e = indices.proposition_at-r.ensures in
     subst (Equated _ _ _ _ _ _ _) told
-    (rw (to_z-of_z w64 _ (sfits_of c.before.struct_told-1.given.1.1.0.1), indices.before.index.ensures, indices.index-2.ensures, e) at c.join.ensures)
+    (rw (to_z-of_z w64 _ (sfits_of c.struct_told-1.given.1.1.0.1), indices.index.ensures, indices.index-2.ensures, e) at c.join.ensures)
 
 joined : tie.Need-returns-in-Joined
 joined c =
-    let j = c.before.before.before.before.before in
+    let j = c in
     let s = start j in
-    advance_joined _ _ s.pre.0.0 s.pre.0.1 s.pre.1.1 (kept j).0 (kept j).1 (equated j c.enum_told-1.given.1)
+    advance_joined _ _ s.pre.0.0 s.pre.0.1 s.pre.1.1 (kept j.before.before.before.before.before).0 (kept j.before.before.before.before.before).1 (equated j c.in-Joined.is)
 
 held : tie.Need-returns-in-Held
 held c =
-    let j = c.before.before.before.before.before in
+    let j = c in
     let s = start j in
-    advance_held _ _ s.pre.0.0 s.pre.0.1 s.pre.1.1 (kept j).0 (kept j).1 (equated j c.enum_told-in-Held-1.given.1)
+    advance_held _ _ s.pre.0.0 s.pre.0.1 s.pre.1.1 (kept j.before.before.before.before.before).0 (kept j.before.before.before.before.before).1 (equated j c.in-Held.is)
 
 clashed : tie.Need-returns-in-Clashed
 clashed c =
-    let j = c.before.before.before.before.before in
+    let j = c in
     let s = start j in
-    advance_clashed _ _ s.pre.0.0 s.pre.0.1 s.pre.1.1 (kept j).0 (kept j).1 (equated j c.enum_told-in-Clashed-1.given.1)
+    advance_clashed _ _ s.pre.0.0 s.pre.0.1 s.pre.1.1 (kept j.before.before.before.before.before).0 (kept j.before.before.before.before.before).1 (equated j c.in-Clashed.is)
 
 pub join_equality_spec : {M : Type 1} → statement M
 join_equality_spec =

@@ -17,18 +17,18 @@ abbrev decreases-loop : tie.decreases-loop-p
 decreases-loop propositions marks representatives offsets p₀ p-end p = length propositions - p
 
 is-refuted-requires : tie.Need-is_refuted-requires invariant-loop decreases-loop
-is-refuted-requires c κs = let s = c.before.before.before.before in (s.requires.0, (s.requires.1, c.loop-p-test.true))
+is-refuted-requires c κs = let s = c in (s.requires.0, (s.requires.1, c.loop-p-test.true))
 
 returns : tie.Need-returns-then-is_refuted invariant-loop decreases-loop
-returns c = refuted c.before.before.loop-p-test.true (rw c.if-is_refuted.true at c.before.is_refuted.ensures)
+returns c = refuted c.loop-p-test.true (rw c.if-is_refuted.true at c.is_refuted.ensures)
 
 loop-again : tie.Need-loop-p-preserved invariant-loop decreases-loop
 loop-again c =
-    let l = c.before.before.before in
-    (omega arith, below_more _ l.loop-p.p l.loop-p.invariant.1 (rw c.if-is_refuted.false at c.before.is_refuted.ensures))
+    let l = c in
+    (omega arith, below_more _ l.loop-p.p l.loop-p.invariant.1 (rw c.if-is_refuted.false at c.is_refuted.ensures))
 
 returns-2 : tie.Need-returns invariant-loop decreases-loop
-returns-2 c = upheld (λ k b. c.before.loop-p.invariant.1 k (omega (arith, c.loop-p-test.false)))
+returns-2 c = upheld (λ k b. c.loop-p.invariant.1 k (omega (arith, c.loop-p-test.false)))
 
 pub any_refuted_spec : {M : Type 1} → statement M
 any_refuted_spec =

@@ -16,19 +16,19 @@ returns c = rw (ne_eqb _ _ c.if-representatives-i.true)
 
 sum-requires : tie.Need-sum-requires
 sum-requires c κs =
-    let s = c.before.before.before.before.before.before in
+    let s = c in
     rw (to_z-of_z w64 s.args.z s.ranges.z, to_z-of_z w64 _ (sfits_of c.sum-arg-1.given))
     (within_fits (omega arith) (within_sum s.requires.1.1.1 (s.requires.0.near _ s.requires.1.1.0)))
 
 returns-2 : tie.Need-returns
 unfolding holds
 returns-2 c =
-    let t = c.before in
-    let x = t.before.before in
-    let s = x.before.before.before.before.before in
-    let e = rw (to_z-of_z w64 s.args.z s.ranges.z, to_z-of_z w64 _ (sfits_of t.before.sum-arg-1.given)) at t.sum.ensures in
+    let t = c in
+    let x = t in
+    let s = x in
+    let e = rw (to_z-of_z w64 s.args.z s.ranges.z, to_z-of_z w64 _ (sfits_of t.sum-arg-1.given)) at t.sum.ensures in
     let f = rw (to_z-of_z w64 t.sum.result (sfits_of t.sum.type_inv), to_z-of_z w64 _ (sfits_of x.is_same-arg-1.given), e) at c.is_same.ensures in
-    rw (eq-eqb _ _ x.before.if-representatives-i.false) f
+    rw (eq-eqb _ _ x.if-representatives-i.false) f
 
 pub holds_spec : {M : Type 1} → statement M
 holds_spec =

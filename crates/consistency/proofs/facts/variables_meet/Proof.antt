@@ -16,33 +16,33 @@ decreases-loop terms representatives seen₀ t₀ t-end seen t = length terms - 
 
 loop-again : tie.Need-loop-t-preserved-then-r-ne-VARIABLE invariant-loop decreases-loop
 loop-again c =
-    let r = c.before.before in
-    let l = r.before.before in
-    seen_other _ _ _ r.before.loop-t-test.true (rw r.term_at-r.ensures at c.if-r-ne-VARIABLE.true) l.loop-t.invariant
+    let r = c in
+    let l = r in
+    seen_other _ _ _ r.loop-t-test.true (rw r.term_at-r.ensures at c.if-r-ne-VARIABLE.true) l.loop-t.invariant
 
 -- a class is a term, and there are few
 few : (c : tie.After-wide-class invariant-loop decreases-loop) → c.wide.result < 512
 few c =
-    let l = c.before.before.before.before.before.before in
-    let s = l.before.before in
+    let l = c in
+    let s = l in
     omega (arith, c.wide-class.ensures, s.requires.1 l.loop-t.t (omega arith), s.requires.0.1, s.requires.0.0)
 
 returns : tie.Need-returns-then-seen-class-ne0 invariant-loop decreases-loop
 returns c =
-    let w = c.before in
-    let r = w.before.before.before.before in
-    let l = r.before.before in
-    seen_meets _ _ _ r.before.loop-t-test.true (rw r.term_at-r.ensures at w.before.before.if-r-ne-VARIABLE.false) w.wide-class.ensures c.if-seen-class-ne0.true l.loop-t.invariant
+    let w = c in
+    let r = w in
+    let l = r in
+    seen_meets _ _ _ r.loop-t-test.true (rw r.term_at-r.ensures at w.if-r-ne-VARIABLE.false) w.wide-class.ensures c.if-seen-class-ne0.true l.loop-t.invariant
 
 loop-again-2 : tie.Need-loop-t-preserved invariant-loop decreases-loop
 loop-again-2 c =
-    let w = c.before in
-    let r = w.before.before.before.before in
-    let l = r.before.before in
-    seen_variable _ _ _ r.before.loop-t-test.true (rw r.term_at-r.ensures at w.before.before.if-r-ne-VARIABLE.false) w.wide-class.ensures (few w) c.if-seen-class-ne0.false l.loop-t.invariant
+    let w = c in
+    let r = w in
+    let l = r in
+    seen_variable _ _ _ r.loop-t-test.true (rw r.term_at-r.ensures at w.if-r-ne-VARIABLE.false) w.wide-class.ensures (few w.before) c.if-seen-class-ne0.false l.loop-t.invariant
 
 returns-2 : tie.Need-returns invariant-loop decreases-loop
-returns-2 c = seen_all _ _ _ (omega (arith, c.loop-t-test.false)) c.before.loop-t.invariant
+returns-2 c = seen_all _ _ _ (omega (arith, c.loop-t-test.false)) c.loop-t.invariant
 
 pub variables_meet_spec : {M : Type 1} → statement M
 variables_meet_spec =
@@ -61,8 +61,8 @@ variables_meet_spec =
     (λ c. omega (arith, few c))
     few
     returns
-    (λ c. omega (arith, few c.before))
-    (λ c. few c.before)
+    (λ c. omega (arith, few c))
+    (λ c. few c)
     (λ c. omega arith)
     (λ c. omega arith)
     loop-again-2

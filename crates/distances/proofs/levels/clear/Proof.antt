@@ -18,9 +18,9 @@ clear_spec =
     decreases-loop
     (λ c. filled_none _ 0 refl)
     (λ c. search rules)
-    (λ c. omega (arith, c.before.loop-k.invariant.long, c.loop-k-test.true))
+    (λ c. omega (arith, c.loop-k.invariant.long, c.loop-k-test.true))
     (λ c. search rules)
     (λ c. search rules)
-    (λ c. filled_more _ 0 c.before.loop-k.invariant (omega (arith, c.loop-k-test.true)) refl)
-    (λ c. c.before.loop-k.invariant.long)
-    (λ c. let l = c.before.loop-k in record { long = l.invariant.long; done = λ j h. l.invariant.done j (omega (arith, c.loop-k-test.false)) }))
+    (λ c. filled_more _ 0 c.loop-k.invariant (omega (arith, c.loop-k-test.true)) refl)
+    (λ c. c.loop-k.invariant.long)
+    (λ c. let l = c.loop-k in record { long = l.invariant.long; done = λ j h. l.invariant.done j (omega (arith, c.loop-k-test.false)) }))

@@ -10,8 +10,8 @@ is_paired_spec =
     tie.close
     (tie.spec
     (λ c κs. search rules)
-    (λ c. λ e p. false_true (sym c.before.is_before.ensures ∙ not-true c.before.is_before.result c.if-not-is_before.true) p.ranked)
+    (λ c. λ e p. false_true (sym c.is_before.ensures ∙ not-true c.is_before.result c.if-not-is_before.true) p.ranked)
     (λ c κs. search rules)
     (λ c κs. search rules)
     (λ c κs. search rules)
-    (λ c. λ e p. c.is_apart.ensures (not-false c.is_apart.result e) (rw (c.before.before.index.ensures, c.before.index-2.ensures) p.joined)))
+    (λ c. λ e p. c.is_apart.ensures (not-false c.is_apart.result e) (rw (c.index.ensures, c.index-2.ensures) p.joined)))

@@ -16,10 +16,10 @@ loop-holds : tie.Need-loop-k-init invariant-loop decreases-loop
 loop-holds c = copying_none _ _ _
 
 loop-again : tie.Need-loop-k-preserved invariant-loop decreases-loop
-loop-again c = copying_more _ _ _ _ c.before.before.loop-k.k _ c.before.before.before.requires.0 c.before.before.before.requires.1 (omega arith) c.before.before.loop-k.invariant
+loop-again c = copying_more _ _ _ _ c.loop-k.k _ c.requires.0 c.requires.1 (omega arith) c.loop-k.invariant
 
 returns : tie.Need-returns invariant-loop decreases-loop
-returns c = copying_all _ _ _ _ c.before.loop-k.k (omega arith) c.before.loop-k.invariant
+returns c = copying_all _ _ _ _ c.loop-k.k (omega arith) c.loop-k.invariant
 
 pub copy_quadruples_spec : {M : Type 1} → statement M
 copy_quadruples_spec =
@@ -31,9 +31,9 @@ copy_quadruples_spec =
     (λ c. omega arith)
     (λ c. omega arith)
     (λ c. omega arith)
-    (λ c. omega (arith, c.before.before.loop-k.invariant.long))
+    (λ c. omega (arith, c.loop-k.invariant.long))
     (λ c. omega arith)
     (λ c. omega arith)
     loop-again
-    (λ c. c.before.loop-k.invariant.long)
+    (λ c. c.loop-k.invariant.long)
     returns)

@@ -5,7 +5,7 @@ use Rattle.frames.proofs.copy.copy_rows.Statement.{statement}
 use Rattle.frames.proofs.copy.copy_rows.Tie as tie
 
 returns : tie.Need-returns
-returns c = copied_each _ _ _ _ c.before.before.before.before.before.before.before.copy_triples.ensures c.before.before.before.before.copy_quadruples.ensures c.before.copy_triples-2.ensures
+returns c = copied_each _ _ _ _ c.copy_triples.ensures c.copy_quadruples.ensures c.copy_triples-2.ensures
 
 pub copy_rows_spec : {M : Type 1} → statement M
 copy_rows_spec =

@@ -6,13 +6,13 @@ use Rattle.frames.proofs.store.store.Statement.{statement}
 use Rattle.frames.proofs.store.store.Tie as tie
 
 term-below : (c : tie.After-term_row) → c.before.before.before.before.args.counts.terms < 512
-term-below c = rw c.before.before.frame-1.given.1 at c.before.before.before.before.requires.0
+term-below c = rw c.in-Term.is at c.requires.0
 
 proposition-below : (c : tie.After-proposition_row) → c.before.before.before.before.args.counts.propositions < 512
-proposition-below c = rw c.before.before.frame-in-Proposition-1.given.1 at c.before.before.before.before.requires.0
+proposition-below c = rw c.in-Proposition.is at c.requires.0
 
 question-below : (c : tie.After-question_row) → c.before.before.before.before.args.counts.questions < 512
-question-below c = rw c.before.before.frame-in-Question-1.given.1 at c.before.before.before.before.requires.0
+question-below c = rw c.in-Question.is at c.requires.0
 
 mul-t15 : tie.Need-offset_bounds-terms-at
 mul-t15 c = omega (arith, term-below c)
@@ -42,16 +42,16 @@ add-next-3 : tie.Need-overflow_add-next-in-Question
 add-next-3 c = omega (arith, question-below c)
 
 returns : tie.Need-returns-in-Term
-returns c = let e = c.before.before.frame-1.given.1 in record { counts = rw e; cells = rw (e, c.term_row.ensures) }
+returns c = let e = c.in-Term.is in record { counts = rw e; cells = rw (e, c.term_row.ensures) }
 
 returns-2 : tie.Need-returns-in-Proposition
-returns-2 c = let e = c.before.before.frame-in-Proposition-1.given.1 in record { counts = rw e; cells = rw (e, c.proposition_row.ensures) }
+returns-2 c = let e = c.in-Proposition.is in record { counts = rw e; cells = rw (e, c.proposition_row.ensures) }
 
 returns-3 : tie.Need-returns-in-Question
-returns-3 c = let e = c.before.before.frame-in-Question-1.given.1 in record { counts = rw e; cells = rw (e, c.question_row.ensures) }
+returns-3 c = let e = c.in-Question.is in record { counts = rw e; cells = rw (e, c.question_row.ensures) }
 
 returns-4 : tie.Need-returns-in-Malformed
-returns-4 c = let e = c.enum_told-1.given.1 in record { counts = rw e; cells = rw e }
+returns-4 c = let e = c.in-Malformed.is in record { counts = rw e; cells = rw e }
 
 pub store_spec : {M : Type 1} → statement M
 store_spec =

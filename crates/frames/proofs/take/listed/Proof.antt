@@ -20,23 +20,23 @@ decreases-loop t count terms k₀ k = count - k
 -- the test of record k
 tested : (c : tie.After-same_atom invariant-loop decreases-loop)
     → c.same-atom.result ≡ is_same_atom c.before.before.before.before.args.t (term_in c.before.before.before.before.args.terms.now c.before.before.before.loop.k)
-tested c = rw (← c.before.term_at.ensures) c.same_atom.ensures
+tested c = rw (← c.term_at.ensures) c.same_atom.ensures
 
 loop-holds : tie.Need-loop-k-init invariant-loop decreases-loop
 loop-holds c = (omega arith, below_none _)
 
 returns : tie.Need-returns-then-same_atom invariant-loop decreases-loop
 returns c rs e L =
-    let l = c.before.before.before.before.loop-k in
-    sym (listed_here _ rs L c.before.before.before.before.before.args.t l.k (omega arith) (sym (tested c.before) ∙ c.if-same_atom.true))
+    let l = c.loop-k in
+    sym (listed_here _ rs L c.args.t l.k (omega arith) (sym (tested c.before) ∙ c.if-same_atom.true))
 
 loop-again : tie.Need-loop-k-preserved invariant-loop decreases-loop
 loop-again c =
-    let l = c.before.before.before.before.loop-k in
+    let l = c.loop-k in
     (omega arith, below_more _ l.k l.invariant.1 (sym (tested c.before) ∙ c.if-same_atom.false))
 
 returns-2 : tie.Need-returns invariant-loop decreases-loop
-returns-2 c rs e L = sym (listed_nowhere _ rs L c.before.before.args.t (λ k h. c.before.loop-k.invariant.1 k (omega arith)))
+returns-2 c rs e L = sym (listed_nowhere _ rs L c.args.t (λ k h. c.loop-k.invariant.1 k (omega arith)))
 
 pub listed_spec : {M : Type 1} → statement M
 listed_spec =

@@ -5,16 +5,16 @@ use Rattle.frames.proofs.take.take_frame.Statement.{statement}
 use Rattle.frames.proofs.take.take_frame.Tie as tie
 
 returns : tie.Need-returns-in-Term
-returns c = let t = c.take_term.ensures in rw c.before.before.frame-1.given.1 t
+returns c = let t = c.take_term.ensures in rw c.in-Term.is t
 
 returns-2 : tie.Need-returns-in-Proposition
-returns-2 c = let t = c.take_proposition.ensures in rw c.before.before.frame-in-Proposition-1.given.1 (record { room = t.room; fault = λ R n L. t.fault R n })
+returns-2 c = let t = c.take_proposition.ensures in rw c.in-Proposition.is (record { room = t.room; fault = λ R n L. t.fault R n })
 
 returns-3 : tie.Need-returns-in-Question
-returns-3 c = let t = c.take_question.ensures in rw c.before.before.frame-in-Question-1.given.1 (record { room = t.room; fault = λ R n L. t.fault R n })
+returns-3 c = let t = c.take_question.ensures in rw c.in-Question.is (record { room = t.room; fault = λ R n L. t.fault R n })
 
 returns-4 : tie.Need-returns-in-Malformed
-returns-4 c = rw c.enum_told-1.given.1 (record { room = tt; fault = λ R n L. refl })
+returns-4 c = rw c.in-Malformed.is (record { room = tt; fault = λ R n L. refl })
 
 pub take_frame_spec : {M : Type 1} → statement M
 take_frame_spec =

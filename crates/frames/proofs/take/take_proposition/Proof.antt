@@ -33,7 +33,7 @@ returns-3 c =
     record {
       room = tt;
       fault = λ R n.
-          let u = rw (c.before.before.is_unlisted.ensures, c.before.is_unlisted-2.ensures, n.terms) at c.if-is_unlisted.true in
+          let u = rw (c.is_unlisted.ensures, c.is_unlisted-2.ensures, n.terms) at c.if-is_unlisted.true in
           simp (empty R.questions (omega arith), lt-leb 512 (length R.propositions) (omega arith), u);
     }
 
@@ -43,7 +43,7 @@ returns-4 c =
     record {
       room = omega arith;
       fault = λ R n.
-          let u = rw (c.before.before.is_unlisted.ensures, c.before.is_unlisted-2.ensures, n.terms) at c.if-is_unlisted.false in
+          let u = rw (c.is_unlisted.ensures, c.is_unlisted-2.ensures, n.terms) at c.if-is_unlisted.false in
           simp (empty R.questions (omega arith), lt-leb 512 (length R.propositions) (omega arith), u);
     }
 

@@ -23,7 +23,7 @@ returns-2 c =
     record {
       room = tt;
       fault = λ R n.
-          let u = rw (c.before.before.is_unlisted.ensures, c.before.is_unlisted-2.ensures, n.terms) at c.if-is_unlisted.true in
+          let u = rw (c.is_unlisted.ensures, c.is_unlisted-2.ensures, n.terms) at c.if-is_unlisted.true in
           simp (lt-leb 512 (length R.questions) (omega arith), u);
     }
 
@@ -33,7 +33,7 @@ returns-3 c =
     record {
       room = omega arith;
       fault = λ R n.
-          let u = rw (c.before.before.is_unlisted.ensures, c.before.is_unlisted-2.ensures, n.terms) at c.if-is_unlisted.false in
+          let u = rw (c.is_unlisted.ensures, c.is_unlisted-2.ensures, n.terms) at c.if-is_unlisted.false in
           simp (lt-leb 512 (length R.questions) (omega arith), u);
     }
 

@@ -41,7 +41,7 @@ returns-4 c =
     record {
       room = tt;
       fault = λ R n L.
-          rw (inner_unlisted R c.before.before.before.before.before.before.before.before.before.before.args.t (omega arith) (omega arith) (omega arith) c.before.before.if-t-eq-DEREF.true (rw (← n.terms) (sym c.before.is_unlisted.ensures ∙ c.if-is_unlisted.true)));
+          rw (inner_unlisted R c.args.t (omega arith) (omega arith) (omega arith) c.if-t-eq-DEREF.true (rw (← n.terms) (sym c.is_unlisted.ensures ∙ c.if-is_unlisted.true)));
     }
 
 returns-5 : tie.Need-returns-then-t-eq-DEREF
@@ -49,7 +49,7 @@ returns-5 c =
     record {
       room = omega arith;
       fault = λ R n L.
-          rw (inner_listed R c.before.before.before.before.before.before.before.before.before.before.args.t (omega arith) (omega arith) (omega arith) c.before.before.if-t-eq-DEREF.true (rw (← n.terms) (sym c.before.is_unlisted.ensures ∙ c.if-is_unlisted.false)));
+          rw (inner_listed R c.args.t (omega arith) (omega arith) (omega arith) c.if-t-eq-DEREF.true (rw (← n.terms) (sym c.is_unlisted.ensures ∙ c.if-is_unlisted.false)));
     }
 
 returns-6 : tie.Need-returns-then-listed
@@ -57,7 +57,7 @@ returns-6 c =
     record {
       room = tt;
       fault = λ R n L.
-          rw (no_inner R c.before.before.before.before.before.before.before.before.before.before.args.t (omega arith) (omega arith) (omega arith) c.before.before.if-t-eq-DEREF.false, sym (c.before.listed.ensures R.terms n.terms L) ∙ c.if-listed.true);
+          rw (no_inner R c.args.t (omega arith) (omega arith) (omega arith) c.if-t-eq-DEREF.false, sym (c.listed.ensures R.terms n.terms L) ∙ c.if-listed.true);
     }
 
 returns-7 : tie.Need-returns
@@ -65,7 +65,7 @@ returns-7 c =
     record {
       room = omega arith;
       fault = λ R n L.
-          rw (no_inner R c.before.before.before.before.before.before.before.before.before.before.args.t (omega arith) (omega arith) (omega arith) c.before.before.if-t-eq-DEREF.false, sym (c.before.listed.ensures R.terms n.terms L) ∙ c.if-listed.false);
+          rw (no_inner R c.args.t (omega arith) (omega arith) (omega arith) c.if-t-eq-DEREF.false, sym (c.listed.ensures R.terms n.terms L) ∙ c.if-listed.false);
     }
 
 pub take_term_spec : {M : Type 1} → statement M

@@ -10,11 +10,11 @@ use Rattle.lines.proofs.line.dereference_frame.Statement.{statement}
 use Rattle.lines.proofs.line.dereference_frame.Tie as tie
 
 returns : tie.Need-returns-then-fields-ne6
-returns c = sym (framed_wrong dereference c.before.before.args.fields.now c.if-fields-ne6.true)
+returns c = sym (framed_wrong dereference c.args.fields.now c.if-fields-ne6.true)
 
 returns-2 : tie.Need-returns
 returns-2 c =
-    rw (framed_right dereference c.before.before.before.before.args.fields.now c.before.before.if-fields-ne6.false, to_z-of_z w64 c.offset_field.result (sfits_of c.offset_field.type_inv), c.offset_field.ensures, c.before.word.ensures)
+    rw (framed_right dereference c.args.fields.now c.if-fields-ne6.false, to_z-of_z w64 c.offset_field.result (sfits_of c.offset_field.type_inv), c.offset_field.ensures, c.word.ensures)
 
 pub dereference_frame_spec : {M : Type 1} → statement M
 dereference_frame_spec = tie.close (tie.spec returns (λ c κs. search rules) (λ c κs. search rules) returns-2)

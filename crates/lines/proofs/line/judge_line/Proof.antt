@@ -9,16 +9,16 @@ use Rattle.lines.proofs.line.judge_line.Statement.{statement}
 use Rattle.lines.proofs.line.judge_line.Tie as tie
 
 returns : tie.Need-returns-then-line-gt-LONGEST
-returns c = sym (line_long c.before.before.args.line.now (omega arith))
+returns c = sym (line_long c.args.line.now (omega arith))
 
 returns-2 : tie.Need-returns-then-not-decode
-returns-2 c = let d = c.before.before.decode in rw (d.ensures, not-true d.result c.if-not-decode.true)
+returns-2 c = let d = c.decode in rw (d.ensures, c.if-not-decode.true)
 
 slice-aggregate-frame-of : tie.Need-slice_bounds-frame_of-end
 slice-aggregate-frame-of c = sym (length-take-le _ _ (omega arith))
 
 returns-3 : tie.Need-returns
-returns-3 c = let d = c.before.before.before.before.decode in rw (d.ensures, not-false d.result c.before.before.if-not-decode.false) c.frame_of.ensures
+returns-3 c = let d = c.decode in rw (d.ensures, c.if-not-decode.false) c.frame_of.ensures
 
 pub judge_line_spec : {M : Type 1} → statement M
 judge_line_spec =

@@ -17,13 +17,13 @@ loop-holds : tie.Need-loop-end-init invariant-loop decreases-loop
 loop-holds c = (c.requires, refl)
 
 returns : tie.Need-returns-then-text-end-eq-LF invariant-loop decreases-loop
-returns c = let l = c.before.before.before.loop-end in sym (l.invariant.1 ∙ end_here _ l.end (omega arith) c.if-text-end-eq-LF.true)
+returns c = let l = c.loop-end in sym (l.invariant.1 ∙ end_here _ l.end (omega arith) c.if-text-end-eq-LF.true)
 
 loop-again : tie.Need-loop-end-preserved invariant-loop decreases-loop
-loop-again c = let l = c.before.before.before.loop-end in (omega arith, l.invariant.1 ∙ end_later _ l.end (omega arith) c.if-text-end-eq-LF.false)
+loop-again c = let l = c.loop-end in (omega arith, l.invariant.1 ∙ end_later _ l.end (omega arith) c.if-text-end-eq-LF.false)
 
 returns-2 : tie.Need-returns invariant-loop decreases-loop
-returns-2 c = let l = c.before.loop-end in sym (l.invariant.1 ∙ end_last _ l.end (omega arith))
+returns-2 c = let l = c.loop-end in sym (l.invariant.1 ∙ end_last _ l.end (omega arith))
 
 pub line_end_spec : {M : Type 1} → statement M
 line_end_spec =

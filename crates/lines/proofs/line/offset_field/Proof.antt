@@ -8,7 +8,7 @@ use Rattle.lines.proofs.line.offset_field.Tie as tie
 
 returns : tie.Need-returns
 returns c =
-    rw (to_z-of_z w64 c.offset.result (sfits_of c.offset.type_inv), c.offset.ensures, c.before.number.ensures)
+    rw (to_z-of_z w64 c.offset.result (sfits_of c.offset.type_inv), c.offset.ensures, c.number.ensures)
 
 pub offset_field_spec : {M : Type 1} → statement M
 offset_field_spec =

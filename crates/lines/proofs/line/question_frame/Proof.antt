@@ -10,11 +10,11 @@ use Rattle.lines.proofs.line.question_frame.Statement.{statement}
 use Rattle.lines.proofs.line.question_frame.Tie as tie
 
 returns : tie.Need-returns-then-fields-ne8
-returns c = sym (framed_wrong asked c.before.before.args.fields.now c.if-fields-ne8.true)
+returns c = sym (framed_wrong asked c.args.fields.now c.if-fields-ne8.true)
 
 returns-2 : tie.Need-returns
 returns-2 c =
-    rw (framed_right asked c.before.before.before.before.before.args.fields.now c.before.before.before.if-fields-ne8.false, c.word-2.ensures, to_z-of_z w64 c.before.offset_field.result (sfits_of c.before.offset_field.type_inv), c.before.offset_field.ensures, c.before.before.word.ensures)
+    rw (framed_right asked c.args.fields.now c.if-fields-ne8.false, c.word-2.ensures, to_z-of_z w64 c.offset_field.result (sfits_of c.offset_field.type_inv), c.offset_field.ensures, c.word.ensures)
 
 pub question_frame_spec : {M : Type 1} → statement M
 question_frame_spec =

@@ -7,7 +7,7 @@ use Rattle.lines.proofs.line.word.Statement.{statement}
 use Rattle.lines.proofs.line.word.Tie as tie
 
 returns : tie.Need-returns
-returns c = let e : (c.before.before.before.args.at + 2) - c.before.before.before.args.at ≡ 2 = omega arith in rw e at c.number.ensures
+returns c = let e : (c.args.at + 2) - c.args.at ≡ 2 = omega arith in rw e at c.number.ensures
 
 pub word_spec : {M : Type 1} → statement M
 word_spec =

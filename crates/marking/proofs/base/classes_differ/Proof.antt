@@ -6,7 +6,7 @@ use Rattle.marking.proofs.base.classes_differ.Tie as tie
 
 returns : tie.Need-returns
 unfolding differ_by_classes
-returns c = rw (c.before.test_pair-apart_classes.ensures, c.other_height.ensures, c.before.before.before.index.ensures, c.before.before.index-2.ensures) refl
+returns c = rw (c.test_pair-apart_classes.ensures, c.other_height.ensures, c.index.ensures, c.index-2.ensures) refl
 
 pub classes_differ_spec : {M : Type 1} → statement M
 classes_differ_spec = tie.close (tie.spec (λ c κs. search rules) (λ c κs. search rules) (λ c κs. search rules) (λ c κs. search rules) returns)

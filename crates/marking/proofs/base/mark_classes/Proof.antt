@@ -5,10 +5,10 @@ use Rattle.marking.proofs.base.mark_classes.Statement.{statement}
 use Rattle.marking.proofs.base.mark_classes.Tie as tie
 
 chain-requires : tie.Need-chain-requires
-chain-requires c κs = let C = c.before.before.before.before.before.before.before.before.before.before.before.before.before.before.before.requires.0 in others_chainable c.before.before.before.before.before.before.before.before.before.before.before.before.before.before.before.args.points.now C.few (omega (arith, C.few)) (omega (arith, C.few)) c.before.before.before.before.fill_others.ensures
+chain-requires c κs = let C = c.requires.0 in others_chainable c.args.points.now C.few (omega (arith, C.few)) (omega (arith, C.few)) c.fill_others.ensures
 
 mark-each-requires : tie.Need-mark_each-requires
-mark-each-requires c κs = let s = c.before.before.before.before.before.before.before.before.before.before.before.before.before.before.before.before.before.before.before.before.before.before.before in (s.requires, record { selves_are = c.before.before.before.before.before.before.before.before.before.before.before.before.before.before.before.fill_selves.ensures; others_are = c.before.before.before.before.before.before.before.before.before.before.before.before.fill_others.ensures.done; chains = c.before.before.before.before.before.before.before.chain.ensures })
+mark-each-requires c κs = let s = c in (s.requires, record { selves_are = c.fill_selves.ensures; others_are = c.fill_others.ensures.done; chains = c.chain.ensures })
 
 pub mark_classes_spec : {M : Type 1} → statement M
 mark_classes_spec =

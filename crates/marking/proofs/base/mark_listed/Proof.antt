@@ -13,13 +13,13 @@ abbrev decreases-loop : tie.decreases-loop-k
 decreases-loop n m left-classes left-heights right-classes right-heights points heights class-first class-next slot-first slot_next pairs₀ notes₀ k₀ pairs notes k = m - k
 
 loop-holds : tie.Need-loop-k-init invariant-loop decreases-loop
-loop-holds c = marking_start c.before.before.before.before.before.before.before.before.before.before.before.args.pairs.now
+loop-holds c = marking_start c.args.pairs.now
 
 mark-listed-pair-requires : tie.Need-mark_listed_pair-requires invariant-loop decreases-loop
-mark-listed-pair-requires c κs = let p = c.before.before.before.before.before.before.before.before.before.before.before.before.before.before.before.requires in (p.0, (p.1.0 c.before.before.before.loop-k.k c.before.before.loop-k-test.true, room_kept c.before.before.before.before.before.before.before.before.before.before.before.before.before.before.before.args.n c.before.before.before.loop-k.invariant.marks p.1.1))
+mark-listed-pair-requires c κs = let p = c.requires in (p.0, (p.1.0 c.loop-k.k c.loop-k-test.true, room_kept c.args.n c.loop-k.invariant.marks p.1.1))
 
 loop-again : tie.Need-loop-k-preserved invariant-loop decreases-loop
-loop-again c = marking_more c.before.before.before.before.before.loop-k-test.true c.before.before.before.before.before.before.loop-k.invariant c.before.before.mark_listed_pair.ensures
+loop-again c = marking_more c.loop-k-test.true c.loop-k.invariant c.mark_listed_pair.ensures
 
 pub mark_listed_spec : {M : Type 1} → statement M
 mark_listed_spec =
@@ -32,5 +32,5 @@ mark_listed_spec =
     (λ c. omega arith)
     (λ c. omega arith)
     loop-again
-    (λ c. c.before.loop-k.invariant.marks.long)
-    (λ c. marking_done c.loop-k-test.false c.before.loop-k.invariant))
+    (λ c. c.loop-k.invariant.marks.long)
+    (λ c. marking_done c.loop-k-test.false c.loop-k.invariant))

@@ -12,11 +12,11 @@ abbrev decreases-loop : tie.decreases-loop-w
 decreases-loop n i j mask pairs₀ w₀ w-end pairs w = w-end - w
 
 loop-again : tie.Need-loop-w-preserved invariant-loop decreases-loop
-loop-again c = let s = c.before.before.before.before.before.before.before.before.before.before in
+loop-again c = let s = c in
     let a = s.args in
-    let l = c.before.before.before.before.before.before.before.loop-w in
-    marking_more c.before.before.before.before.before.before.loop-w-test.true l.invariant
-    (word_adds a.n a.i.0 a.j l.w a.mask.now s.requires.1.0.left (room_kept a.n l.invariant.marks s.requires.1.1) s.requires.0 c.before.before.before.word_without.ensures (rw c.before.before.before.before.before.pair_number-at.ensures at c.before.before.or_word.ensures))
+    let l = c.loop-w in
+    marking_more c.loop-w-test.true l.invariant
+    (word_adds a.n a.i.0 a.j l.w a.mask.now s.requires.1.0.left (room_kept a.n l.invariant.marks s.requires.1.1) s.requires.0 c.word_without.ensures (rw c.pair_number-at.ensures at c.or_word.ensures))
 
 pub mark_masked_spec : {M : Type 1} → statement M
 mark_masked_spec =
@@ -24,14 +24,14 @@ mark_masked_spec =
     (tie.spec
     invariant-loop
     decreases-loop
-    (λ c. omega (arith, c.before.before.requires.1.0.few))
-    (λ c. marking_start c.before.before.args.pairs.now)
-    (λ c. omega (arith, c.loop-w-test.true, c.before.before.before.before.requires.1.0.few))
-    (λ c κs. let p = c.before.before.before.before.requires.1.0 in record { few = p.few; left = p.left; right = omega (arith, c.loop-test.true) })
+    (λ c. omega (arith, c.requires.1.0.few))
+    (λ c. marking_start c.args.pairs.now)
+    (λ c. omega (arith, c.loop-w-test.true, c.requires.1.0.few))
+    (λ c κs. let p = c.requires.1.0 in record { few = p.few; left = p.left; right = omega (arith, c.loop-w-test.true) })
     (λ c κs. search rules)
-    (λ c κs. let s = c.before.before.before.before.before.before.before in omega (arith, c.before.before.before.loop-test.true, c.before.before.pair-number.ensures, s.requires.1.0.few, product_small s.args.n s.args.i.0 s.requires.1.0.few s.requires.1.0.left))
+    (λ c κs. let s = c in omega (arith, c.loop-w-test.true, c.pair_number-at.ensures, s.requires.1.0.few, product_small s.args.n s.args.i.0 s.requires.1.0.few s.requires.1.0.left))
     (λ c. omega arith)
-    (λ c. omega (arith, c.before.before.before.before.before.before.loop-w-test.true))
+    (λ c. omega (arith, c.loop-w-test.true))
     loop-again
-    (λ c. c.before.loop-w.invariant.marks.long)
-    (λ c. let a = c.before.before.before.before.args in row_masked a.n a.i.0 a.j a.mask.now (omega arith) c.loop-w-test.false c.before.loop-w.invariant))
+    (λ c. c.loop-w.invariant.marks.long)
+    (λ c. let a = c.args in row_masked a.n a.i.0 a.j a.mask.now (omega arith) c.loop-w-test.false c.loop-w.invariant))

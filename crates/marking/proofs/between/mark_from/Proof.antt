@@ -14,37 +14,37 @@ abbrev decreases-loop : tie.decreases-loop-i
 decreases-loop n a p b q classes heights class-first class-next slot-first slot_next pairs₀ notes₀ i₀ pairs notes i = n - i
 
 linked-requires : tie.Need-linked-i-requires invariant-loop decreases-loop
-linked-requires c κs = let p = c.before.before.before.before.before.before.before.before.requires in omega (arith, c.index.ensures, p.0.by_class.starts.long, p.0.column.few, p.1.0)
+linked-requires c κs = let p = c.requires in omega (arith, c.index.ensures, p.0.by_class.starts.long, p.0.column.few, p.1.0)
 
 loop-holds : tie.Need-loop-i-init invariant-loop decreases-loop
-loop-holds c = let s = c.before.before.before.before.before.before.before.before.before in
-    rw (c.linked-i.ensures, c.before.index.ensures)
+loop-holds c = let s = c in
+    rw (c.linked-i.ensures, c.index.ensures)
     (walking_start (PairsFrom s.args.n s.args.classes.now s.args.heights.now s.args.a s.args.p s.args.b s.args.q) (λ j x y h e. e.0) s.args.pairs.now
     (s.requires.0.by_class.starts.from s.args.a (omega (arith, s.requires.1.0, s.requires.0.column.few))))
 
 mark-with-requires : tie.Need-mark_with-requires invariant-loop decreases-loop
-mark-with-requires c κs = let p = c.before.before.before.before.before.before.before.before.before.before.before.before.before.requires in
-    (p.0.column, (p.0.by_slot, (p.1.1.0, (p.1.1.1.0, (c.before.before.loop-i-test.true, room_kept c.before.before.before.before.before.before.before.before.before.before.before.before.before.args.n c.before.before.before.loop-i.invariant.marks p.1.1.1.1)))))
+mark-with-requires c κs = let p = c.requires in
+    (p.0.column, (p.0.by_slot, (p.1.1.0, (p.1.1.1.0, (c.loop-i-test.true, room_kept c.args.n c.loop-i.invariant.marks p.1.1.1.1)))))
 
 linked-requires-2 : tie.Need-linked-i-requires-in-loop-i invariant-loop decreases-loop
-linked-requires-2 c κs = omega (arith, c.before.before.before.before.before.before.before.before.before.before.before.before.before.before.before.before.requires.0.by_class.room, c.before.before.before.before.before.loop-i-test.true)
+linked-requires-2 c κs = omega (arith, c.requires.0.by_class.room, c.loop-i-test.true)
 
 loop-less : tie.Need-loop-i-smaller invariant-loop decreases-loop
-loop-less c = let f = (c.before.before.before.before.before.before.before.before.before.before.before.before.before.before.before.before.before.requires.0.by_class.links.links c.before.before.before.before.before.before.before.loop-i.i (omega arith) c.before.before.before.before.before.before.loop-i-test.true).after in omega (arith, c.linked-i-in-loop-i.ensures, c.before.before.before.before.before.before.loop-i-test.true)
+loop-less c = let f = (c.requires.0.by_class.links.links c.loop-i.i (omega arith) c.loop-i-test.true).after in omega (arith, c.linked-i-in-loop-i.ensures, c.loop-i-test.true)
 
 loop-again : tie.Need-loop-i-preserved invariant-loop decreases-loop
-loop-again c = let s = c.before.before.before.before.before.before.before.before.before.before.before.before.before.before.before.before.before in
-    let i = c.before.before.before.before.before.before.before.loop-i.i in
-    let h = c.before.before.before.before.before.before.loop-i-test.true in
+loop-again c = let s = c in
+    let i = c.loop-i.i in
+    let h = c.loop-i-test.true in
     let E = PairsFrom s.args.n s.args.classes.now s.args.heights.now s.args.a s.args.p s.args.b s.args.q in
     rw c.linked-i-in-loop-i.ensures
-    (walking_more E (λ j x y h e. e.0) h (s.requires.0.by_class.links.links i (omega arith) h) c.before.before.before.before.before.before.before.loop-i.invariant
-    (adds_as s.args.n (PairsWith s.args.n s.args.classes.now s.args.heights.now s.args.p s.args.b s.args.q i) (E i) c.before.before.before.mark_with.ensures
-    (λ x y hx hy d. (c.before.before.before.before.before.before.before.loop-i.invariant.here h, d))
+    (walking_more E (λ j x y h e. e.0) h (s.requires.0.by_class.links.links i (omega arith) h) c.loop-i.invariant
+    (adds_as s.args.n (PairsWith s.args.n s.args.classes.now s.args.heights.now s.args.p s.args.b s.args.q i) (E i) c.mark_with.ensures
+    (λ x y hx hy d. (c.loop-i.invariant.here h, d))
     (λ x y hx hy d. d.1)))
 
 returns : tie.Need-returns invariant-loop decreases-loop
-returns c = let s = c.before.before.before.before.before.before.before.before.before.before.before in walking_done (PairsFrom s.args.n s.args.classes.now s.args.heights.now s.args.a s.args.p s.args.b s.args.q) (λ j x y h e. e.0) c.loop-i-test.false c.before.loop-i.invariant
+returns c = let s = c in walking_done (PairsFrom s.args.n s.args.classes.now s.args.heights.now s.args.a s.args.p s.args.b s.args.q) (λ j x y h e. e.0) c.loop-i-test.false c.loop-i.invariant
 
 pub mark_from_spec : {M : Type 1} → statement M
 mark_from_spec =
@@ -59,5 +59,5 @@ mark_from_spec =
     linked-requires-2
     loop-less
     loop-again
-    (λ c. c.before.loop-i.invariant.marks.long)
+    (λ c. c.loop-i.invariant.marks.long)
     returns)

@@ -9,17 +9,17 @@ use Rattle.marking.proofs.between.mark_if.Statement.{statement}
 use Rattle.marking.proofs.between.mark_if.Tie as tie
 
 is-at-requires : tie.Need-is_at-requires
-is-at-requires c κs = let s = c.before.before.before.requires in (omega (arith, s.0.classes_long, s.1.0.right), omega (arith, s.0.heights_long, s.1.0.right))
+is-at-requires c κs = let s = c.requires in (omega (arith, s.0.classes_long, s.1.0.right), omega (arith, s.0.heights_long, s.1.0.right))
 
 returns : tie.Need-returns-then-not-is_at
-returns c = let s = c.before.before.before.before.before.args in
+returns c = let s = c.args in
     adds_none s.n (PairHere s.classes.now s.heights.now s.class s.height s.i.0 s.j.0) _
-    (λ x y d. false_true (sym c.before.is_at.ensures ∙ not-true _ c.if-not-is_at.true) (true_here d.0))
+    (λ x y d. false_true (sym c.is_at.ensures ∙ c.if-not-is_at.true) (true_here d.0))
 
 returns-2 : tie.Need-returns
-returns-2 c = let s = c.before.before.before.before.before.before.before.before.before.before.before.args in
-    let here = here_true s.classes.now s.heights.now s.class s.height s.j.0 (sym c.before.before.before.before.before.before.before.is_at.ensures ∙ not-false _ c.before.before.before.before.before.before.if-not-is_at.false) in
-    adds_as s.n (Both s.i.0 s.j.0) (PairHere s.classes.now s.heights.now s.class s.height s.i.0 s.j.0) c.before.before.before.before.mark_both-fresh.ensures
+returns-2 c = let s = c.args in
+    let here = here_true s.classes.now s.heights.now s.class s.height s.j.0 (sym c.is_at.ensures ∙ c.if-not-is_at.false) in
+    adds_as s.n (Both s.i.0 s.j.0) (PairHere s.classes.now s.heights.now s.class s.height s.i.0 s.j.0) c.mark_both-fresh.ensures
     (λ x y hx hy d. (here, d))
     (λ x y hx hy d. d.1)
 

@@ -5,10 +5,10 @@ use Rattle.marking.proofs.bits.pair_number.Statement.{statement}
 use Rattle.marking.proofs.bits.pair_number.Tie as tie
 
 mul-result : tie.Need-overflow_mul-result
-mul-result c = omega (arith, product_small c.before.args.n c.before.args.i.0 c.before.requires.few c.before.requires.left)
+mul-result c = omega (arith, product_small c.args.n c.args.i.0 c.requires.few c.requires.left)
 
 add-result : tie.Need-overflow_add-result
-add-result c = omega (arith, product_small c.before.before.args.n c.before.before.args.i.0 c.before.before.requires.few c.before.before.requires.left, c.before.before.requires.few, c.before.before.requires.right)
+add-result c = omega (arith, product_small c.args.n c.args.i.0 c.requires.few c.requires.left, c.requires.few, c.requires.right)
 
 returns : tie.Need-returns
 returns c = search rules

@@ -14,10 +14,10 @@ same_length : tie.Need-shape_of-table
 same_length c = search rules
 
 returns : tie.Need-returns
-returns c = let s = c.before.before.before.before.before.before.before.before.before in
+returns c = let s = c in
     let i = s.args.i.0 in
     let j = s.args.j.0 in
-    adds_then s.args.n (One i j) (One j i) (Both i j) c.before.before.before.before.before.before.set_pair.ensures c.before.before.set_pair-2.ensures
+    adds_then s.args.n (One i j) (One j i) (Both i j) c.set_pair.ensures c.set_pair-2.ensures
     (λ x y hx hy d. d)
     (λ x y hx hy d. inl d)
     (λ x y hx hy d. inr d)

@@ -4,7 +4,7 @@ use Rattle.marking.proofs.bits.test_both.Statement.{statement}
 use Rattle.marking.proofs.bits.test_both.Tie as tie
 
 returns : tie.Need-returns
-returns c = rw (c.before.test_pair.ensures, c.test_pair-2.ensures) refl
+returns c = rw (c.test_pair.ensures, c.test_pair-2.ensures) refl
 
 pub test_both_spec : {M : Type 1} → statement M
 test_both_spec = tie.close (tie.spec (λ c κs. search rules) (λ c κs. search rules) returns)

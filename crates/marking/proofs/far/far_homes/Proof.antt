@@ -5,9 +5,9 @@ use Rattle.marking.proofs.far.far_homes.Statement.{statement}
 use Rattle.marking.proofs.far.far_homes.Tie as tie
 
 returns : tie.Need-returns
-returns c = let s = c.before.before.before.before.before.before.before.before.before.before.before.before.before.before.before in
+returns c = let s = c in
     let a = s.args in
-    far_all a.n a.a a.apart.now a.points.now s.requires.1.0.few s.requires.0 c.before.before.before.before.before.before.far_selves.ensures c.before.before.far_others.ensures
+    far_all a.n a.a a.apart.now a.points.now s.requires.1.0.few s.requires.0 c.far_selves.ensures c.far_others.ensures
 
 pub far_homes_spec : {M : Type 1} → statement M
 far_homes_spec = tie.close (tie.spec (λ c κs. search rules) (λ c κs. search rules) (λ c. search rules) returns)

@@ -11,21 +11,21 @@ abbrev decreases-loop : tie.decreases-loop-t
 decreases-loop n a selves others other-first other-next points apart far₀ t₀ far t = n - t
 
 loop-holds : tie.Need-loop-t-init invariant-loop decreases-loop
-loop-holds c = let s = c.before.before.before.before.before.before.before.before in rw c.linked-t.ensures (others_start s.requires.0 s.args.far.now (s.requires.0.chains.starts.from 1 (omega arith)))
+loop-holds c = let s = c in rw c.linked-t.ensures (others_start s.requires.0 s.args.far.now (s.requires.0.chains.starts.from 1 (omega arith)))
 
 put-far-requires : tie.Need-put_far-requires invariant-loop decreases-loop
-put-far-requires c κs = let p = c.before.before.before.before.before.before.before.before.before.before.before.requires in
-    let h = c.before.loop-t-test.true in
-    let l = c.before.before.loop-t in
+put-far-requires c κs = let p = c.requires in
+    let h = c.loop-t-test.true in
+    let l = c.loop-t in
     (record { few = p.1.0.few; left = p.1.0.left; right = h }, (p.1.1.0, (one_below _ _ _ (l.invariant.here h), (p.1.1.1.0, l.invariant.long ∙ p.1.1.1.1))))
 
 loop-less : tie.Need-loop-t-smaller invariant-loop decreases-loop
-loop-less c = let h = c.before.before.before.before.before.loop-t-test.true in let f = (c.before.before.before.before.before.before.before.before.before.before.before.before.before.before.before.requires.0.chains.links.links c.before.before.before.before.before.before.loop-t.t (omega arith) h).after in omega (arith, c.linked-t-in-loop-t.ensures)
+loop-less c = let h = c.loop-t-test.true in let f = (c.requires.0.chains.links.links c.loop-t.t (omega arith) h).after in omega (arith, c.linked-t-in-loop-t.ensures)
 
 loop-again : tie.Need-loop-t-preserved invariant-loop decreases-loop
-loop-again c = let S = c.before.before.before.before.before.before.before.before.before.before.before.before.before.before.before.requires.0 in
-    let h = c.before.before.before.before.before.loop-t-test.true in
-    rw c.linked-t-in-loop-t.ensures (others_more S h (S.chains.links.links c.before.before.before.before.before.before.loop-t.t (omega arith) h) c.before.before.before.before.before.before.loop-t.invariant c.before.before.before.put_far.ensures)
+loop-again c = let S = c.requires.0 in
+    let h = c.loop-t-test.true in
+    rw c.linked-t-in-loop-t.ensures (others_more S h (S.chains.links.links c.loop-t.t (omega arith) h) c.loop-t.invariant c.put_far.ensures)
 
 pub far_others_spec : {M : Type 1} → statement M
 far_others_spec =
@@ -33,11 +33,11 @@ far_others_spec =
     (tie.spec
     invariant-loop
     decreases-loop
-    (λ c κs. omega (arith, c.before.before.before.before.before.before.before.requires.0.chains.starts.long))
+    (λ c κs. omega (arith, c.requires.0.chains.starts.long))
     loop-holds
     put-far-requires
-    (λ c κs. omega (arith, c.before.before.before.before.before.before.before.before.before.before.before.before.before.before.requires.0.chains.room, c.before.before.before.before.loop-test.true))
+    (λ c κs. omega (arith, c.requires.0.chains.room, c.loop-t-test.true))
     loop-less
     loop-again
-    (λ c. c.before.loop-t.invariant.long)
-    (λ c. others_done c.loop-t-test.false c.before.loop-t.invariant))
+    (λ c. c.loop-t.invariant.long)
+    (λ c. others_done c.loop-t-test.false c.loop-t.invariant))

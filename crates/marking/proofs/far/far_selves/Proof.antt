@@ -12,10 +12,10 @@ abbrev decreases-loop : tie.decreases-loop-w
 decreases-loop n a selves apart far₀ start w₀ far w = 8 - w
 
 returns : tie.Need-returns invariant-loop decreases-loop
-returns c = let s = c.before.before.before.before.before.before.args in
-    let e : c.before.loop-w.w ≡ 8 = omega (arith, c.loop-w-test.false, c.before.loop-w.invariant.0) in
-    let f : c.before.before.pair_number-start.result ≡ s.a * s.n = omega (arith, c.before.before.pair_number-start.ensures) in
-    rw (e, f) at c.before.loop-w.invariant.1
+returns c = let s = c.args in
+    let e : c.loop-w.w ≡ 8 = omega (arith, c.loop-w-test.false, c.loop-w.invariant.0) in
+    let f : c.pair_number-start.result ≡ s.a * s.n = omega (arith, c.pair_number-start.ensures) in
+    rw (e, f) at c.loop-w.invariant.1
 
 pub far_selves_spec : {M : Type 1} → statement M
 far_selves_spec =
@@ -23,14 +23,14 @@ far_selves_spec =
     (tie.spec
     invariant-loop
     decreases-loop
-    (λ c κs. let p = c.before.before.before.requires in record { few = p.0; left = p.1.0; right = omega (arith, p.1.0) })
-    (λ c. (omega arith, far_none c.before.before.before.before.requires.1.1))
+    (λ c κs. let p = c.requires in record { few = p.0; left = p.1.0; right = omega (arith, p.1.0) })
+    (λ c. (omega arith, far_none c.requires.1.1))
     (λ c. omega (arith, c.loop-w-test.true))
-    (λ c κs. let s = c.before.before.before.before.before.before in omega (arith, c.loop-w-test.true, c.before.before.pair_number-start.ensures, s.requires.0, product_small s.args.n s.args.a s.requires.0 s.requires.1.0))
+    (λ c κs. let s = c in omega (arith, c.loop-w-test.true, c.pair_number-start.ensures, s.requires.0, product_small s.args.n s.args.a s.requires.0 s.requires.1.0))
     (λ c. omega arith)
-    (λ c. omega (arith, c.before.before.loop-w.invariant.1.long, c.before.loop-w-test.true))
+    (λ c. omega (arith, c.loop-w.invariant.1.long, c.loop-w-test.true))
     (λ c. omega arith)
-    (λ c. omega (arith, c.before.loop-w-test.true))
-    (λ c. (omega (arith, c.before.loop-w-test.true), far_more c.before.loop-w-test.true c.before.before.loop-w.invariant.1 c.common.ensures))
-    (λ c. c.before.loop-w.invariant.1.long ∙ sym c.before.before.before.before.before.before.requires.1.1)
+    (λ c. omega (arith, c.loop-w-test.true))
+    (λ c. (omega (arith, c.loop-w-test.true), far_more c.loop-w-test.true c.loop-w.invariant.1 c.common.ensures))
+    (λ c. c.loop-w.invariant.1.long ∙ sym c.requires.1.1)
     returns)

@@ -12,7 +12,7 @@ abbrev decreases-loop : tie.decreases-loop-t
 decreases-loop n points others₀ t₀ others t = n - t
 
 returns : tie.Need-returns invariant-loop decreases-loop
-returns c = let e : c.before.loop-t.t ≡ c.before.before.before.before.args.n = omega (arith, c.loop-t-test.false, c.before.loop-t.invariant.0) in rw e at c.before.loop-t.invariant.1
+returns c = let e : c.loop-t.t ≡ c.args.n = omega (arith, c.loop-t-test.false, c.loop-t.invariant.0) in rw e at c.loop-t.invariant.1
 
 pub fill_others_spec : {M : Type 1} → statement M
 fill_others_spec =
@@ -22,12 +22,12 @@ fill_others_spec =
     decreases-loop
     (λ c. (omega arith, filled_none _ 0 refl))
     (λ c. omega arith)
-    (λ c. omega (arith, c.before.loop-t-test.true, c.before.before.before.before.before.requires.0))
+    (λ c. omega (arith, c.loop-t-test.true, c.requires.0))
     (λ c κs. search rules)
     (λ c. omega arith)
-    (λ c. omega (arith, c.before.before.before.loop-t.invariant.1.long, c.before.before.loop-t-test.true, c.before.before.before.before.before.before.requires.1))
+    (λ c. omega (arith, c.loop-t.invariant.1.long, c.loop-t-test.true, c.requires.1))
     (λ c. omega arith)
     (λ c. omega arith)
-    (λ c. (omega (arith, c.before.before.loop-t-test.true), filled_more _ 0 c.before.before.before.loop-t.invariant.1 (omega (arith, c.before.before.loop-t-test.true, c.before.before.before.before.before.before.requires.1)) c.other_key.ensures))
-    (λ c. c.before.loop-t.invariant.1.long)
+    (λ c. (omega (arith, c.loop-t-test.true), filled_more _ 0 c.loop-t.invariant.1 (omega (arith, c.loop-t-test.true, c.requires.1)) c.other_key.ensures))
+    (λ c. c.loop-t.invariant.1.long)
     returns)

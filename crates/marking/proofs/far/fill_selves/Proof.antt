@@ -12,7 +12,7 @@ abbrev decreases-loop : tie.decreases-loop-t
 decreases-loop n points selves₀ t₀ selves t = n - t
 
 returns : tie.Need-returns invariant-loop decreases-loop
-returns c = let e : c.before.loop-t.t ≡ c.before.before.before.before.args.n = omega (arith, c.loop-t-test.false, c.before.loop-t.invariant.upto) in rw e at c.before.loop-t.invariant
+returns c = let e : c.loop-t.t ≡ c.args.n = omega (arith, c.loop-t-test.false, c.loop-t.invariant.upto) in rw e at c.loop-t.invariant
 
 pub fill_selves_spec : {M : Type 1} → statement M
 fill_selves_spec =
@@ -20,16 +20,16 @@ fill_selves_spec =
     (tie.spec
     invariant-loop
     decreases-loop
-    (λ c. selves_none c.before.before.requires.1.1)
+    (λ c. selves_none c.requires.1.1)
     (λ c. omega arith)
-    (λ c. omega (arith, c.before.loop-t-test.true, c.before.before.before.before.before.requires.1.0))
+    (λ c. omega (arith, c.loop-t-test.true, c.requires.1.0))
     (λ c κs. search rules)
     (λ c. omega arith)
-    (λ c. omega (arith, c.before.before.before.loop-t-test.true))
-    (λ c. selves_skip c.before.before.before.loop-t-test.true (λ e. c.if-index-t.true (c.before.index.ensures ∙ e)) c.before.before.before.before.loop-t.invariant)
-    (λ c κs. omega (arith, c.before.before.before.before.before.loop.invariant.long, c.before.before.before.before.loop-test.true, c.before.before.before.before.before.before.before.before.requires.0))
+    (λ c. omega (arith, c.loop-t-test.true))
+    (λ c. selves_skip c.loop-t-test.true (λ e. c.if-index-t.true (c.index.ensures ∙ e)) c.loop-t.invariant)
+    (λ c κs. omega (arith, c.loop-t.invariant.long, c.loop-t-test.true, c.requires.0))
     (λ c. omega arith)
-    (λ c. omega (arith, c.before.before.before.before.before.before.before.loop-t-test.true))
-    (λ c. selves_more c.before.before.before.before.before.before.before.loop-t-test.true (sym c.before.before.before.before.before.index.ensures ∙ c.before.before.before.before.if-index-t.false) c.before.before.before.before.before.before.before.before.loop-t.invariant c.before.before.put.ensures)
-    (λ c. c.before.loop-t.invariant.long ∙ sym (zeros_long c.before.before.before.before.requires.1.1))
+    (λ c. omega (arith, c.loop-t-test.true))
+    (λ c. selves_more c.loop-t-test.true (sym c.index.ensures ∙ c.if-index-t.false) c.loop-t.invariant c.put.ensures)
+    (λ c. c.loop-t.invariant.long ∙ sym (zeros_long c.requires.1.1))
     returns)

@@ -5,10 +5,10 @@ use Rattle.marking.proofs.far.put_far.Statement.{statement}
 use Rattle.marking.proofs.far.put_far.Tie as tie
 
 returns : tie.Need-returns-then-test_pair
-returns c = put_yes (sym (rw c.before.before.before.before.before.before.index.ensures at c.before.before.before.before.before.test_pair.ensures) ∙ c.before.before.before.before.if-test_pair.true) c.before.before.put.ensures
+returns c = put_yes (sym (rw c.index.ensures at c.test_pair.ensures) ∙ c.if-test_pair.true) c.put.ensures
 
 returns-2 : tie.Need-returns-else-test_pair
-returns-2 c = put_no _ _ (sym (rw c.before.before.index.ensures at c.before.test_pair.ensures) ∙ c.if-test_pair.false)
+returns-2 c = put_no _ _ (sym (rw c.index.ensures at c.test_pair.ensures) ∙ c.if-test_pair.false)
 
 pub put_far_spec : {M : Type 1} → statement M
 put_far_spec =

@@ -13,18 +13,18 @@ abbrev decreases-loop : tie.decreases-loop-c
 decreases-loop n start end a p b q points heights slot-first slot_next from order entries pairs₀ notes₀ c₀ pairs notes c = end - c
 
 loop-holds : tie.Need-loop-c-init invariant-loop decreases-loop
-loop-holds c = let s = c.before.before.before.before.before.before.before.before.args in (inr refl, spanning_start (Candidate s.n s.points.now s.heights.now s.from.now s.order.now s.entries.now s.a s.p s.b s.q) _)
+loop-holds c = let s = c.args in (inr refl, spanning_start (Candidate s.n s.points.now s.heights.now s.from.now s.order.now s.entries.now s.a s.p s.b s.q) _)
 
 mark-candidate-requires : tie.Need-mark_candidate-requires invariant-loop decreases-loop
-mark-candidate-requires c κs = let s = c.before.before.before.before.before.before.before.before.before.before.before.before in
-    (s.requires.0, (s.requires.1.0, (s.requires.1.1.0, (s.requires.1.1.1.0, room_kept s.args.n c.before.before.before.loop-c.invariant.1.marks s.requires.1.1.1.1))))
+mark-candidate-requires c κs = let s = c in
+    (s.requires.0, (s.requires.1.0, (s.requires.1.1.0, (s.requires.1.1.1.0, room_kept s.args.n c.loop-c.invariant.1.marks s.requires.1.1.1.1))))
 
 loop-again : tie.Need-loop-c-preserved invariant-loop decreases-loop
-loop-again c = let s = c.before.before.before.before.before.before.before.before.before.before.before.before.before.before.before.args in
-    (inl (omega (arith, c.before.before.before.before.before.loop-c-test.true)), spanning_more (Candidate s.n s.points.now s.heights.now s.from.now s.order.now s.entries.now s.a s.p s.b s.q) c.before.before.before.before.before.before.loop-c.invariant.1 c.before.before.mark_candidate.ensures)
+loop-again c = let s = c.args in
+    (inl (omega (arith, c.loop-c-test.true)), spanning_more (Candidate s.n s.points.now s.heights.now s.from.now s.order.now s.entries.now s.a s.p s.b s.q) c.loop-c.invariant.1 c.mark_candidate.ensures)
 
 returns : tie.Need-returns invariant-loop decreases-loop
-returns c = let s = c.before.before.before.before.before.before.before.before.before.before.args in spanning_done (Candidate s.n s.points.now s.heights.now s.from.now s.order.now s.entries.now s.a s.p s.b s.q) c.loop-c-test.false c.before.loop-c.invariant.0 c.before.loop-c.invariant.1
+returns c = let s = c.args in spanning_done (Candidate s.n s.points.now s.heights.now s.from.now s.order.now s.entries.now s.a s.p s.b s.q) c.loop-c-test.false c.loop-c.invariant.0 c.loop-c.invariant.1
 
 pub mark_candidates_spec : {M : Type 1} → statement M
 mark_candidates_spec =
@@ -37,5 +37,5 @@ mark_candidates_spec =
     (λ c. omega arith)
     (λ c. omega arith)
     loop-again
-    (λ c. c.before.loop-c.invariant.1.marks.long)
+    (λ c. c.loop-c.invariant.1.marks.long)
     returns)

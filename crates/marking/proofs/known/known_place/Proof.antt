@@ -13,25 +13,25 @@ abbrev decreases-loop : tie.decreases-loop-j
 decreases-loop n i class height classes heights slot-first slot_next pairs j₀ j = n - j
 
 slot-requires : tie.Need-slot-requires invariant-loop decreases-loop
-slot-requires c κs = let p = c.before.before.before.before.before.requires in (omega (arith, p.1.1.0, p.0.few), omega (arith, p.1.1.1.0))
+slot-requires c κs = let p = c.requires in (omega (arith, p.1.1.0, p.0.few), omega (arith, p.1.1.1.0))
 
 linked-requires : tie.Need-linked-j-requires invariant-loop decreases-loop
-linked-requires c κs = rw c.before.before.before.before.before.before.requires.1.0.chains.starts.long c.slot.ensures.1
+linked-requires c κs = rw c.requires.1.0.chains.starts.long c.slot.ensures.1
 
 is-at-requires : tie.Need-is_at-requires invariant-loop decreases-loop
-is-at-requires c κs = let p = c.before.before.before.before.before.before.before.before.before.requires in (omega (arith, p.0.classes_long, c.loop-j-test.true), omega (arith, p.0.heights_long, c.loop-j-test.true))
+is-at-requires c κs = let p = c.requires in (omega (arith, p.0.classes_long, c.loop-j-test.true), omega (arith, p.0.heights_long, c.loop-j-test.true))
 
 test-both-requires : tie.Need-test_both-requires invariant-loop decreases-loop
-test-both-requires c κs = let p = c.before.before.before.before.before.before.before.before.before.before.before.requires in (record { few = p.0.few; left = p.1.1.1.1.0; right = c.before.before.loop-j-test.true }, p.1.1.1.1.1)
+test-both-requires c κs = let p = c.requires in (record { few = p.0.few; left = p.1.1.1.1.0; right = c.loop-j-test.true }, p.1.1.1.1.1)
 
 returns : tie.Need-returns-then-is_at invariant-loop decreases-loop
-returns c e = known_at c.before.before.before.loop-j-test.true (sym c.before.before.is_at.ensures ∙ c.before.if-is_at.true) (sym c.test_both.ensures ∙ e)
+returns c e = known_at c.loop-j-test.true (sym c.is_at.ensures ∙ c.if-is_at.true) (sym c.test_both.ensures ∙ e)
 
 linked-requires-2 : tie.Need-linked-j-requires-in-loop-j invariant-loop decreases-loop
-linked-requires-2 c κs = omega (arith, c.before.before.before.before.before.before.before.before.before.before.before.requires.1.0.chains.room, c.before.before.loop-j-test.true)
+linked-requires-2 c κs = omega (arith, c.requires.1.0.chains.room, c.loop-j-test.true)
 
 loop-less : tie.Need-loop-j-smaller invariant-loop decreases-loop
-loop-less c = let f = (slot_link c.before.before.before.before.before.before.before.before.before.before.before.before.requires.1.0 c.before.before.before.before.loop-j.j c.before.before.before.loop-j-test.true).after in omega (arith, c.linked-j-in-loop-j.ensures, c.before.before.before.loop-j-test.true)
+loop-less c = let f = (slot_link c.requires.1.0 c.loop-j.j c.loop-j-test.true).after in omega (arith, c.linked-j-in-loop-j.ensures, c.loop-j-test.true)
 
 returns-2 : tie.Need-returns invariant-loop decreases-loop
 returns-2 c e = false_true refl e

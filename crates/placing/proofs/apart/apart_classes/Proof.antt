@@ -11,13 +11,13 @@ use Rattle.placing.proofs.apart.apart_classes.Tie as tie
 
 returns : tie.Need-returns
 returns c =
-    let s = c.before.before.before.before.before.before.before.before.before.before.args in
+    let s = c.args in
     let n = length s.terms.now in
     adds_then n (Upto (length s.propositions.now) (BlockPair (proposition_in s.propositions.now) s.reps.now))
     (Upto n (λ i. Upto n (VariablePair (term_in s.terms.now) s.reps.now i)))
     (ApartClasses (set_of s.terms.now s.propositions.now) s.reps.now)
-    c.before.before.before.before.before.before.mark_blocks.ensures
-    c.before.before.mark_variables.ensures
+    c.mark_blocks.ensures
+    c.mark_variables.ensures
     (λ x y hx hy d. d)
     (λ x y hx hy d. inl d)
     (λ x y hx hy d. inr d)
@@ -27,6 +27,6 @@ apart_classes_spec =
     tie.close
     (tie.spec
     (λ c κs. search rules)
-    (λ c κs. (c.before.before.before.before.before.before.before.requires.0.classes, room_kept (length c.before.before.before.before.before.before.before.args.terms.now) c.before.before.before.mark-blocks.ensures c.before.before.before.before.before.before.before.requires.1))
+    (λ c κs. (c.requires.0.classes, room_kept (length c.args.terms.now) c.mark_blocks.ensures c.requires.1))
     (λ c. search rules)
     returns)

@@ -11,4 +11,4 @@ is_variable_spec =
     tie.close
     (tie.spec
     (λ c κs. search rules)
-    (λ c. ap (λ (r : TermRecord). eqb r.kind 1) c.before.term_at.ensures))
+    (λ c. ap (λ (r : TermRecord). eqb r.kind 1) c.term_at.ensures))

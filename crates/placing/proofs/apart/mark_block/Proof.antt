@@ -13,43 +13,43 @@ use Rattle.placing.proofs.apart.mark_block.Tie as tie
 
 returns : tie.Need-returns-then-r-ne-BLOCK_DISEQUALITY
 returns c =
-    let s = c.before.before.before.before.before in
+    let s = c in
     adds_none (length s.args.terms.now) (BlockPair (proposition_in s.args.propositions.now) s.args.reps.now s.args.k.0) _
-    (λ x y d. c.if-r-ne-BLOCK_DISEQUALITY.true (ap (λ (r : PropositionRecord). r.kind) c.before.before.proposition_at-r.ensures ∙ d.0))
+    (λ x y d. c.if-r-ne-BLOCK_DISEQUALITY.true (ap (λ (r : PropositionRecord). r.kind) c.proposition_at-r.ensures ∙ d.0))
 
 class-of-requires : tie.Need-class_of-a-requires
 class-of-requires c κs =
-    let s = c.before.before.before.before.before.before in
-    let e = c.index.ensures ∙ ap (λ (r : PropositionRecord). r.left) c.before.before.before.proposition_at-r.ensures in
+    let s = c in
+    let e = c.index.ensures ∙ ap (λ (r : PropositionRecord). r.left) c.proposition_at-r.ensures in
     omega (arith, (sides_below (length s.args.terms.now) (length s.args.propositions.now) (proposition_in s.args.propositions.now) s.requires.0.accepted s.args.k.0 s.requires.1.0).0, s.requires.0.classes.long)
 
 class-of-requires-2 : tie.Need-class_of-b-requires
 class-of-requires-2 c κs =
-    let s = c.before.before.before.before.before.before.before.before in
-    let e = c.index-2.ensures ∙ ap (λ (r : PropositionRecord). r.right) c.before.before.before.before.before.proposition_at-r.ensures in
+    let s = c in
+    let e = c.index-2.ensures ∙ ap (λ (r : PropositionRecord). r.right) c.proposition_at-r.ensures in
     omega (arith, (sides_below (length s.args.terms.now) (length s.args.propositions.now) (proposition_in s.args.propositions.now) s.requires.0.accepted s.args.k.0 s.requires.1.0).1, s.requires.0.classes.long)
 
 set-both-requires : tie.Need-set_both-requires
 set-both-requires c κs =
-    let s = c.before.before.before.before.before.before.before.before.before.before in
+    let s = c in
     let r = proposition_in s.args.propositions.now s.args.k.0 in
     let b = sides_below (length s.args.terms.now) (length s.args.propositions.now) (proposition_in s.args.propositions.now) s.requires.0.accepted s.args.k.0 s.requires.1.0 in
     let left = s.requires.0.classes.below r.left b.0 in
     let right = s.requires.0.classes.below r.right b.1 in (
       record {
         few = s.requires.0.classes.few;
-        left = rw (c.before.before.before.class_of-a.ensures, c.before.before.before.before.index.ensures ∙ ap (λ (r : PropositionRecord). r.left) c.before.before.before.before.before.before.before.proposition_at-r.ensures) left;
-        right = rw (c.before.class_of-b.ensures, c.before.before.index-2.ensures ∙ ap (λ (r : PropositionRecord). r.right) c.before.before.before.before.before.before.before.proposition_at-r.ensures) right;
+        left = rw (c.class_of-a.ensures, c.index.ensures ∙ ap (λ (r : PropositionRecord). r.left) c.proposition_at-r.ensures) left;
+        right = rw (c.class_of-b.ensures, c.index-2.ensures ∙ ap (λ (r : PropositionRecord). r.right) c.proposition_at-r.ensures) right;
       },
       s.requires.1.1,
     )
 
 returns-2 : tie.Need-returns
 returns-2 c =
-    let s = c.before.before.before.before.before.before.before.before.before.before.before.before.before in
-    let kind = sym (ap (λ (r : PropositionRecord). r.kind) c.before.before.before.before.before.before.before.before.before.before.proposition_at-r.ensures) ∙ c.before.before.before.before.before.before.before.before.if-r-ne-BLOCK_DISEQUALITY.false in
+    let s = c in
+    let kind = sym (ap (λ (r : PropositionRecord). r.kind) c.proposition_at-r.ensures) ∙ c.if-r-ne-BLOCK_DISEQUALITY.false in
     adds_as (length s.args.terms.now) _ (BlockPair (proposition_in s.args.propositions.now) s.args.reps.now s.args.k.0)
-    (rw (c.before.before.before.before.before.before.class_of-a.ensures, c.before.before.before.before.class_of-b.ensures, c.before.before.before.before.before.before.before.index.ensures ∙ ap (λ (r : PropositionRecord). r.left) c.before.before.before.before.before.before.before.before.before.before.proposition_at-r.ensures, c.before.before.before.before.before.index-2.ensures ∙ ap (λ (r : PropositionRecord). r.right) c.before.before.before.before.before.before.before.before.before.before.proposition_at-r.ensures) at c.before.before.set_both.ensures)
+    (rw (c.class_of-a.ensures, c.class_of-b.ensures, c.index.ensures ∙ ap (λ (r : PropositionRecord). r.left) c.proposition_at-r.ensures, c.index-2.ensures ∙ ap (λ (r : PropositionRecord). r.right) c.proposition_at-r.ensures) at c.set_both.ensures)
     (λ x y hx hy d. (kind, d))
     (λ x y hx hy d. d.1)
 

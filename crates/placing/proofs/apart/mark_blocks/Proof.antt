@@ -20,10 +20,10 @@ mark_blocks_spec =
     (tie.spec
     invariant-loop
     decreases-loop
-    (λ c. marking_start c.before.before.args.table.now)
-    (λ c κs. (c.before.before.before.before.before.requires.0, (c.before.loop-test.true, room_kept (length c.before.before.before.before.before.args.terms.now) c.before.before.loop.invariant.marks c.before.before.before.before.before.requires.1)))
+    (λ c. marking_start c.args.table.now)
+    (λ c κs. (c.requires.0, (c.loop-k-test.true, room_kept (length c.args.terms.now) c.loop-k.invariant.marks c.requires.1)))
     (λ c. omega arith)
     (λ c. omega arith)
-    (λ c. marking_more c.before.before.before.before.loop-k-test.true c.before.before.before.before.before.loop-k.invariant c.before.before.mark_block.ensures)
-    (λ c. c.before.loop-k.invariant.marks.long)
-    (λ c. marking_done c.loop-k-test.false c.before.loop-k.invariant))
+    (λ c. marking_more c.loop-k-test.true c.loop-k.invariant c.mark_block.ensures)
+    (λ c. c.loop-k.invariant.marks.long)
+    (λ c. marking_done c.loop-k-test.false c.loop-k.invariant))

@@ -20,24 +20,24 @@ decreases-loop terms reps mask table₀ i₀ i-end table i = length terms - i
 
 loop-again : tie.Need-loop-i-preserved-then-not-is_variable invariant-loop decreases-loop
 loop-again c =
-    marking_skip c.before.before.loop-i-test.true c.before.before.before.loop-i.invariant
-    (λ x y d. eqb-false (term_in c.before.before.before.before.before.before.before.args.terms.now c.before.before.before.loop-i.i).kind variable_kind (sym c.before.is_variable.ensures ∙ not-true _ c.if-not-is_variable.true) d.0)
+    marking_skip c.loop-i-test.true c.loop-i.invariant
+    (λ x y d. eqb-false (term_in c.args.terms.now c.loop-i.i).kind variable_kind (sym c.is_variable.ensures ∙ c.if-not-is_variable.true) d.0)
 
 mark-masked-requires : tie.Need-mark_masked-requires invariant-loop decreases-loop
 mark-masked-requires c κs =
-    let s = c.before.before.before.before.before.before.before.before.before in
-    (s.requires.1.0, (record { few = s.requires.0.few; left = rw c.before.class_of-c.ensures (s.requires.0.below c.before.before.before.before.before.loop-i.i c.before.before.before.before.loop-i-test.true); right = rw c.before.class_of-c.ensures (s.requires.0.below c.before.before.before.before.before.loop-i.i c.before.before.before.before.loop-i-test.true) }, room_kept (length s.args.terms.now) c.before.before.before.before.before.loop-i.invariant.marks s.requires.1.1))
+    let s = c in
+    (s.requires.1.0, (record { few = s.requires.0.few; left = rw c.class_of-c.ensures (s.requires.0.below c.loop-i.i c.loop-i-test.true); right = rw c.class_of-c.ensures (s.requires.0.below c.loop-i.i c.loop-i-test.true) }, room_kept (length s.args.terms.now) c.loop-i.invariant.marks s.requires.1.1))
 
 loop-again-2 : tie.Need-loop-i-preserved invariant-loop decreases-loop
 loop-again-2 c =
-    let a = c.before.before.before.before.before.before.before.before.before.before.before.before.args in
+    let a = c.args in
     let T = a.terms.now in
-    let i = c.before.before.before.before.before.before.before.before.loop-i.i in
+    let i = c.loop-i.i in
     let r = get_or a.reps.now i 0 in
-    let kind = eqb-true (term_in T i).kind variable_kind (sym c.before.before.before.before.before.before.is_variable.ensures ∙ not-false _ c.before.before.before.before.before.if-not-is_variable.false) in
-    marking_more c.before.before.before.before.before.before.before.loop-i-test.true c.before.before.before.before.before.before.before.before.loop-i.invariant
+    let kind = eqb-true (term_in T i).kind variable_kind (sym c.is_variable.ensures ∙ c.if-not-is_variable.false) in
+    marking_more c.loop-i-test.true c.loop-i.invariant
     (adds_as (length T) (MaskPair a.mask.now r r) (VariableRow (length T) (term_in T) a.reps.now a.mask.now i)
-    (rw c.before.before.before.before.class_of-c.ensures at c.before.before.mark_masked.ensures)
+    (rw c.class_of-c.ensures at c.mark_masked.ensures)
     (λ x y hx hy d. (kind, d))
     (λ x y hx hy d. d.1))
 
@@ -47,15 +47,15 @@ mark_rows_spec =
     (tie.spec
     invariant-loop
     decreases-loop
-    (λ c. marking_start c.before.before.before.args.table.now)
+    (λ c. marking_start c.args.table.now)
     (λ c κs. omega arith)
     (λ c. omega arith)
-    (λ c. omega (arith, c.before.before.loop-i-test.true))
+    (λ c. omega (arith, c.loop-i-test.true))
     loop-again
-    (λ c κs. omega (arith, c.before.before.loop-test.true, c.before.before.before.before.before.before.before.requires.0.long))
+    (λ c κs. omega (arith, c.loop-i-test.true, c.requires.0.long))
     mark-masked-requires
     (λ c. omega arith)
-    (λ c. omega (arith, c.before.before.before.before.before.before.before.loop-i-test.true))
+    (λ c. omega (arith, c.loop-i-test.true))
     loop-again-2
-    (λ c. c.before.loop-i.invariant.marks.long)
-    (λ c. marking_done c.loop-i-test.false c.before.loop-i.invariant))
+    (λ c. c.loop-i.invariant.marks.long)
+    (λ c. marking_done c.loop-i-test.false c.loop-i.invariant))

@@ -9,14 +9,14 @@ use Rattle.placing.proofs.apart.mark_variables.Tie as tie
 
 mark-rows-requires : tie.Need-mark_rows-requires
 mark-rows-requires c κs =
-    let a = c.before.before.before.before.before.before.before.before.before.before.args in
-    let p = c.before.before.before.before.before.before.before.before.before.before.requires in
+    let a = c.args in
+    let p = c.requires in
     let n = length a.terms.now in
-    let G = c.before.before.before.before.before.put_variables.ensures in
+    let G = c.put_variables.ensures in
     (p.0, (gathered_below n (term_in a.terms.now) a.reps.now p.0.below G, room_kept n G.marks p.1))
 
 returns : tie.Need-returns
-returns c = let a = c.before.before.before.before.before.before.before.before.before.before.before.before.before.args in variables_marked (length a.terms.now) (term_in a.terms.now) a.reps.now c.before.before.before.before.before.before.before.before.put_variables.ensures c.before.before.mark_rows.ensures
+returns c = let a = c.args in variables_marked (length a.terms.now) (term_in a.terms.now) a.reps.now c.put_variables.ensures c.mark_rows.ensures
 
 pub mark_variables_spec : {M : Type 1} → statement M
 mark_variables_spec =

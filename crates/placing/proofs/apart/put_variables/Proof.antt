@@ -20,26 +20,26 @@ decreases-loop terms reps mask₀ table₀ i₀ i-end mask table i = length term
 
 loop-again : tie.Need-loop-i-preserved-then-not-is_variable invariant-loop decreases-loop
 loop-again c =
-    let T = c.before.before.before.before.before.before.before.args.terms.now in
-    gathered_skip (length T) (term_in T) c.before.before.before.before.before.before.before.args.reps.now c.before.before.loop-i-test.true
-    (eqb-false (term_in T c.before.before.before.loop-i.i).kind variable_kind (sym c.before.is_variable.ensures ∙ not-true _ c.if-not-is_variable.true))
-    c.before.before.before.loop-i.invariant
+    let T = c.args.terms.now in
+    gathered_skip (length T) (term_in T) c.args.reps.now c.loop-i-test.true
+    (eqb-false (term_in T c.loop-i.i).kind variable_kind (sym c.is_variable.ensures ∙ c.if-not-is_variable.true))
+    c.loop-i.invariant
 
 put-class-requires : tie.Need-put_class-requires invariant-loop decreases-loop
 put-class-requires c κs =
-    let s = c.before.before.before.before.before.before.before.before.before.before in
-    (record { few = s.requires.0.few; left = rw c.before.before.class_of.ensures (s.requires.0.below c.before.before.before.before.before.before.loop-i.i c.before.before.before.before.before.loop-i-test.true); right = rw c.before.before.class_of.ensures (s.requires.0.below c.before.before.before.before.before.before.loop-i.i c.before.before.before.before.before.loop-i-test.true) }, (c.before.before.before.before.before.before.loop-i.invariant.long, room_kept (length s.args.terms.now) c.before.before.before.before.before.before.loop-i.invariant.marks s.requires.1.1))
+    let s = c in
+    (record { few = s.requires.0.few; left = rw c.class_of.ensures (s.requires.0.below c.loop-i.i c.loop-i-test.true); right = rw c.class_of.ensures (s.requires.0.below c.loop-i.i c.loop-i-test.true) }, (c.loop-i.invariant.long, room_kept (length s.args.terms.now) c.loop-i.invariant.marks s.requires.1.1))
 
 loop-again-2 : tie.Need-loop-i-preserved invariant-loop decreases-loop
 loop-again-2 c =
-    let T = c.before.before.before.before.before.before.before.before.before.before.before.before.before.before.before.args.terms.now in
-    gathered_more (length T) (term_in T) c.before.before.before.before.before.before.before.before.before.before.before.before.before.before.before.args.reps.now c.before.before.before.before.before.before.before.before.before.before.loop-i-test.true
-    (eqb-true (term_in T c.before.before.before.before.before.before.before.before.before.before.before.loop-i.i).kind variable_kind (sym c.before.before.before.before.before.before.before.before.before.is_variable.ensures ∙ not-false _ c.before.before.before.before.before.before.before.before.if-not-is_variable.false))
-    c.before.before.before.before.before.before.before.before.before.before.before.loop-i.invariant
-    (rw c.before.before.before.before.before.before.before.class_of.ensures at c.before.before.before.before.put_class.ensures)
+    let T = c.args.terms.now in
+    gathered_more (length T) (term_in T) c.args.reps.now c.loop-i-test.true
+    (eqb-true (term_in T c.loop-i.i).kind variable_kind (sym c.is_variable.ensures ∙ c.if-not-is_variable.false))
+    c.loop-i.invariant
+    (rw c.class_of.ensures at c.put_class.ensures)
 
 returns : tie.Need-returns invariant-loop decreases-loop
-returns c = let a = c.before.before.before.before.before.args in gathered_done (length a.terms.now) (term_in a.terms.now) a.reps.now c.loop-i-test.false c.before.loop-i.invariant
+returns c = let a = c.args in gathered_done (length a.terms.now) (term_in a.terms.now) a.reps.now c.loop-i-test.false c.loop-i.invariant
 
 pub put_variables_spec : {M : Type 1} → statement M
 put_variables_spec =
@@ -47,16 +47,16 @@ put_variables_spec =
     (tie.spec
     invariant-loop
     decreases-loop
-    (λ c. let a = c.before.before.before.args in gathered_none (length a.terms.now) (term_in a.terms.now) a.reps.now a.table.now c.before.before.before.requires.1.0)
+    (λ c. let a = c.args in gathered_none (length a.terms.now) (term_in a.terms.now) a.reps.now a.table.now c.requires.1.0)
     (λ c κs. omega arith)
     (λ c. omega arith)
-    (λ c. omega (arith, c.before.before.loop-i-test.true))
+    (λ c. omega (arith, c.loop-i-test.true))
     loop-again
-    (λ c κs. omega (arith, c.before.before.loop-test.true, c.before.before.before.before.before.before.before.requires.0.long))
+    (λ c κs. omega (arith, c.loop-i-test.true, c.requires.0.long))
     put-class-requires
     (λ c. omega arith)
-    (λ c. omega (arith, c.before.before.before.before.before.before.before.before.before.before.loop-i-test.true))
+    (λ c. omega (arith, c.loop-i-test.true))
     loop-again-2
-    (λ c. c.before.loop-i.invariant.long ∙ sym (zeros_long c.before.before.before.before.before.requires.1.0))
-    (λ c. c.before.loop-i.invariant.marks.long)
+    (λ c. c.loop-i.invariant.long ∙ sym (zeros_long c.requires.1.0))
+    (λ c. c.loop-i.invariant.marks.long)
     returns)

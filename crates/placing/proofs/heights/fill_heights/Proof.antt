@@ -18,11 +18,11 @@ abbrev decreases-loop : tie.decreases-loop-t
 decreases-loop offs heights₀ t₀ t-end heights t = length offs - t
 
 lifted-requires : tie.Need-lifted-requires invariant-loop decreases-loop
-lifted-requires c κs = rw (to_z-of_z w64 _ (sfits_of c.lifted-arg-1.given)) (near_liftable (c.before.before.before.before.requires.1.0.near c.before.before.loop-t.t c.before.loop-t-test.true))
+lifted-requires c κs = rw (to_z-of_z w64 _ (sfits_of c.lifted-arg-1.given)) (near_liftable (c.requires.1.0.near c.loop-t.t c.loop-t-test.true))
 
 loop-again : tie.Need-loop-t-preserved invariant-loop decreases-loop
 loop-again c =
-    heights_more c.before.before.before.loop-t.invariant (omega (arith, c.before.before.before.before.before.requires.0, c.before.before.loop-t-test.true)) (rw (to_z-of_z w64 _ (sfits_of c.before.lifted-arg-1.given)) at c.lifted.ensures)
+    heights_more c.loop-t.invariant (omega (arith, c.requires.0, c.loop-t-test.true)) (rw (to_z-of_z w64 _ (sfits_of c.lifted-arg-1.given)) at c.lifted.ensures)
 
 pub fill_heights_spec : {M : Type 1} → statement M
 fill_heights_spec =
@@ -30,14 +30,14 @@ fill_heights_spec =
     (tie.spec
     invariant-loop
     decreases-loop
-    (λ c. heights_none c.before.requires.1.1)
+    (λ c. heights_none c.requires.1.1)
     (λ c. omega arith)
     (λ c. omega arith)
     lifted-requires
     (λ c. omega arith)
-    (λ c. omega (arith, c.before.before.before.loop-t.invariant.long, c.before.before.before.before.before.requires.0, c.before.before.loop-t-test.true))
+    (λ c. omega (arith, c.loop-t.invariant.long, c.requires.0, c.loop-t-test.true))
     (λ c. omega arith)
     (λ c. omega arith)
     loop-again
-    (λ c. c.before.loop-t.invariant.long ∙ sym c.before.before.before.requires.1.1)
-    (λ c. heights_done c.loop-t-test.false c.before.loop-t.invariant))
+    (λ c. c.loop-t.invariant.long ∙ sym c.requires.1.1)
+    (λ c. heights_done c.loop-t-test.false c.loop-t.invariant))

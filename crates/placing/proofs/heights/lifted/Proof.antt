@@ -11,9 +11,9 @@ sum-requires c κs = rw (to_z-of_z w64 c.args.z c.ranges.z) (level_fits c.args.z
 
 returns : tie.Need-returns
 returns c =
-    let s = c.before.before in
-    let e = rw (to_z-of_z w64 s.args.z s.ranges.z) at c.before.sum.ensures in
-    rw (c.bits.ensures, to_z-of_z w64 c.before.sum.result (sfits_of c.before.sum.type_inv), e) (lifted_bits s.args.z s.requires)
+    let s = c in
+    let e = rw (to_z-of_z w64 s.args.z s.ranges.z) at c.sum.ensures in
+    rw (c.bits.ensures, to_z-of_z w64 c.sum.result (sfits_of c.sum.type_inv), e) (lifted_bits s.args.z s.requires)
 
 pub lifted_spec : {M : Type 1} → statement M
 lifted_spec =

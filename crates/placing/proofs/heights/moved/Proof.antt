@@ -11,15 +11,15 @@ sum-requires c κs = rw (to_z-of_z w64 c.args.z c.ranges.z, to_z-of_z w64 c.args
 
 lifted-requires : tie.Need-lifted-requires
 lifted-requires c κs =
-    let s = c.before in
+    let s = c in
     let e = rw (to_z-of_z w64 s.args.z s.ranges.z, to_z-of_z w64 s.args.o s.ranges.o) at c.sum.ensures in
     rw (to_z-of_z w64 c.sum.result (sfits_of c.sum.type_inv), e) (moved_within s.requires.0 s.requires.1)
 
 returns : tie.Need-returns
 returns c =
-    let s = c.before.before in
-    let e = rw (to_z-of_z w64 s.args.z s.ranges.z, to_z-of_z w64 s.args.o s.ranges.o) at c.before.sum.ensures in
-    rw (to_z-of_z w64 c.before.sum.result (sfits_of c.before.sum.type_inv), e) at c.lifted.ensures
+    let s = c in
+    let e = rw (to_z-of_z w64 s.args.z s.ranges.z, to_z-of_z w64 s.args.o s.ranges.o) at c.sum.ensures in
+    rw (to_z-of_z w64 c.sum.result (sfits_of c.sum.type_inv), e) at c.lifted.ensures
 
 pub moved_spec : {M : Type 1} → statement M
 moved_spec =

@@ -21,11 +21,11 @@ fill_reads_spec =
     (tie.spec
     invariant-loop
     decreases-loop
-    (λ c. reads_none c.before.before.before.requires.1.0 c.before.before.before.requires.1.1)
-    (λ c κs. ((c.before.before.before.before.before.before.before.requires.0, c.before.before.loop-test.true), c.before.before.before.loop.invariant))
+    (λ c. reads_none c.requires.1.0 c.requires.1.1)
+    (λ c κs. ((c.requires.0, c.loop-t-test.true), c.loop-t.invariant))
     (λ c. omega arith)
     (λ c. omega arith)
-    (λ c. c.before.before.before.before.fill_read.ensures)
-    (λ c. c.before.loop-t.invariant.classes_long ∙ sym c.before.before.before.before.before.requires.1.0)
-    (λ c. c.before.loop-t.invariant.heights_long ∙ sym c.before.before.before.before.before.requires.1.1)
-    (λ c. reads_done c.loop-t-test.false c.before.loop-t.invariant))
+    (λ c. c.fill_read.ensures)
+    (λ c. c.loop-t.invariant.classes_long ∙ sym c.requires.1.0)
+    (λ c. c.loop-t.invariant.heights_long ∙ sym c.requires.1.1)
+    (λ c. reads_done c.loop-t-test.false c.loop-t.invariant))

@@ -21,13 +21,13 @@ fill_sides_spec =
     (tie.spec
     invariant-loop
     decreases-loop
-    (λ c. let p = c.before.before.before.before.before.requires.1 in sides_none p.0 p.1.0 p.1.1.0 p.1.1.1)
-    (λ c κs. ((c.before.before.before.before.before.before.before.before.before.before.before.requires.0, c.before.before.before.before.loop-test.true), c.before.before.before.before.before.loop.invariant))
+    (λ c. let p = c.requires.1 in sides_none p.0 p.1.0 p.1.1.0 p.1.1.1)
+    (λ c κs. ((c.requires.0, c.loop-k-test.true), c.loop-k.invariant))
     (λ c. omega arith)
     (λ c. omega arith)
-    (λ c. c.before.before.before.before.before.before.before.before.fill_side.ensures)
-    (λ c. c.before.loop-k.invariant.left_long ∙ sym c.before.before.before.before.before.before.before.requires.1.0)
-    (λ c. c.before.loop-k.invariant.left_heights_long ∙ sym c.before.before.before.before.before.before.before.requires.1.1.0)
-    (λ c. c.before.loop-k.invariant.right_long ∙ sym c.before.before.before.before.before.before.before.requires.1.1.1.0)
-    (λ c. c.before.loop-k.invariant.right_heights_long ∙ sym c.before.before.before.before.before.before.before.requires.1.1.1.1)
-    (λ c. sides_done c.loop-k-test.false c.before.loop-k.invariant))
+    (λ c. c.fill_side.ensures)
+    (λ c. c.loop-k.invariant.left_long ∙ sym c.requires.1.0)
+    (λ c. c.loop-k.invariant.left_heights_long ∙ sym c.requires.1.1.0)
+    (λ c. c.loop-k.invariant.right_long ∙ sym c.requires.1.1.1.0)
+    (λ c. c.loop-k.invariant.right_heights_long ∙ sym c.requires.1.1.1.1)
+    (λ c. sides_done c.loop-k-test.false c.loop-k.invariant))

@@ -10,19 +10,19 @@ use Rattle.placing.proofs.sides.left_height.Statement.{statement}
 use Rattle.placing.proofs.sides.left_height.Tie as tie
 
 mul-lifted : tie.Need-offset_bounds-offs-left
-mul-lifted c = let s = c.before.before in let e = c.index-left.ensures ∙ ap (λ (r : PropositionRecord). r.left) c.before.proposition_at-r.ensures in omega (arith, s.requires.1.there)
+mul-lifted c = let s = c in let e = c.index-left.ensures ∙ ap (λ (r : PropositionRecord). r.left) c.proposition_at-r.ensures in omega (arith, s.requires.1.there)
 
 shared-slice-copy-out-lifted : tie.Need-bounds-offs-left
-shared-slice-copy-out-lifted c = let s = c.before.before in let e = c.index-left.ensures ∙ ap (λ (r : PropositionRecord). r.left) c.before.proposition_at-r.ensures in omega (arith, s.requires.1.there)
+shared-slice-copy-out-lifted c = let s = c in let e = c.index-left.ensures ∙ ap (λ (r : PropositionRecord). r.left) c.proposition_at-r.ensures in omega (arith, s.requires.1.there)
 
 lifted-requires : tie.Need-lifted-requires
 lifted-requires c κs =
-    let s = c.before.before.before in
-    let e = c.before.index-left.ensures ∙ ap (λ (r : PropositionRecord). r.left) c.before.before.proposition_at-r.ensures in
+    let s = c in
+    let e = c.index-left.ensures ∙ ap (λ (r : PropositionRecord). r.left) c.proposition_at-r.ensures in
     rw (to_z-of_z w64 _ (sfits_of c.lifted-arg-1.given), e) (near_liftable s.requires.1.near)
 
 returns : tie.Need-returns
-returns c = let e = c.before.before.index-left.ensures ∙ ap (λ (r : PropositionRecord). r.left) c.before.before.before.proposition_at-r.ensures in rw (to_z-of_z w64 _ (sfits_of c.before.lifted-arg-1.given), e) at c.lifted.ensures
+returns c = let e = c.index-left.ensures ∙ ap (λ (r : PropositionRecord). r.left) c.proposition_at-r.ensures in rw (to_z-of_z w64 _ (sfits_of c.lifted-arg-1.given), e) at c.lifted.ensures
 
 pub left_height_spec : {M : Type 1} → statement M
 left_height_spec =

@@ -7,13 +7,13 @@ use Rattle.placing.proofs.sides.right_class.Statement.{statement}
 use Rattle.placing.proofs.sides.right_class.Tie as tie
 
 mul-result : tie.Need-offset_bounds-reps-right
-mul-result c = let s = c.before.before.before in let e = c.index-right.ensures ∙ ap (λ (r : PropositionRecord). r.right) c.before.proposition_at-r.ensures in omega (arith, s.requires.1)
+mul-result c = let s = c in let e = c.index-right.ensures ∙ ap (λ (r : PropositionRecord). r.right) c.proposition_at-r.ensures in omega (arith, s.requires.1)
 
 shared-slice-read-result : tie.Need-bounds-reps-right
-shared-slice-read-result c = let s = c.before.before.before.before in let e = c.before.index-right.ensures ∙ ap (λ (r : PropositionRecord). r.right) c.before.before.proposition_at-r.ensures in omega (arith, s.requires.1)
+shared-slice-read-result c = let s = c in let e = c.index-right.ensures ∙ ap (λ (r : PropositionRecord). r.right) c.proposition_at-r.ensures in omega (arith, s.requires.1)
 
 returns : tie.Need-returns
-returns c = let e = c.before.index-right.ensures ∙ ap (λ (r : PropositionRecord). r.right) c.before.before.proposition_at-r.ensures in rw e
+returns c = let e = c.index-right.ensures ∙ ap (λ (r : PropositionRecord). r.right) c.proposition_at-r.ensures in rw e
 
 pub right_class_spec : {M : Type 1} → statement M
 right_class_spec =

@@ -6,12 +6,12 @@ use Rattle.points.proofs.chains.chain_slots.Statement.{statement}
 use Rattle.points.proofs.chains.chain_slots.Tie as tie
 
 chain-requires : tie.Need-chain-requires
-chain-requires c κs = let p = c.before.before.before.before.before.before.before.before.before.before.requires in
-    let f = c.before.before.before.before.slot_column.ensures in
+chain-requires c κs = let p = c.requires in
+    let f = c.slot_column.ensures in
     slot_keys p.0 (omega (arith, f.long, p.0.few)) p.1.1 (omega (arith, p.1.0)) f.done
 
 returns : tie.Need-returns
-returns c = record { slotted = _; slotted_as = c.before.before.before.before.before.before.before.before.before.slot_column.ensures.done; chains = chains_sized c.before.before.before.before.before.before.before.before.before.before.before.before.before.before.before.requires.1.0 c.before.before.before.before.chain.ensures }
+returns c = record { slotted = _; slotted_as = c.slot_column.ensures.done; chains = chains_sized c.requires.1.0 c.chain.ensures }
 
 pub chain_slots_spec : {M : Type 1} → statement M
 chain_slots_spec = tie.close (tie.spec (λ c. search rules) (λ c κs. search rules) (λ c. search rules) chain-requires (λ c. search rules) (λ c. search rules) returns)

@@ -12,7 +12,7 @@ abbrev decreases-loop : tie.decreases-loop-t
 decreases-loop n classes homes points₀ t₀ points t = n - t
 
 loop-again : tie.Need-loop-t-preserved invariant-loop decreases-loop
-loop-again c = filled_more _ 0 c.before.before.before.before.loop-t.invariant (omega (arith, c.before.before.before.loop-t-test.true, c.before.before.before.before.before.before.before.before.requires.1.1.1)) c.point.ensures
+loop-again c = filled_more _ 0 c.loop-t.invariant (omega (arith, c.loop-t-test.true, c.requires.1.1.1)) c.point.ensures
 
 pub fill_points_spec : {M : Type 1} → statement M
 fill_points_spec =
@@ -25,11 +25,11 @@ fill_points_spec =
     (λ c. omega arith)
     (λ c. omega arith)
     (λ c. omega arith)
-    (λ c κs. c.before.before.before.before.before.before.before.requires.0)
+    (λ c κs. c.requires.0)
     (λ c. omega arith)
-    (λ c. omega (arith, c.before.before.before.before.loop-t.invariant.long, c.before.before.before.loop-t-test.true, c.before.before.before.before.before.before.before.before.requires.1.1.1))
+    (λ c. omega (arith, c.loop-t.invariant.long, c.loop-t-test.true, c.requires.1.1.1))
     (λ c. omega arith)
     (λ c. omega arith)
     loop-again
-    (λ c. c.before.loop-t.invariant.long)
-    (λ c. points_filled c.before.before.before.before.before.requires.1.1.1 c.loop-t-test.false c.before.loop-t.invariant))
+    (λ c. c.loop-t.invariant.long)
+    (λ c. points_filled c.requires.1.1.1 c.loop-t-test.false c.loop-t.invariant))

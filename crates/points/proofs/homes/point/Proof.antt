@@ -6,11 +6,11 @@ use Rattle.points.proofs.homes.point.Tie as tie
 
 returns : tie.Need-returns-then-index-t
 unfolding point_of
-returns c = rw (eq-eqb _ _ (sym c.before.before.index.ensures ∙ c.if-index-t.true))
+returns c = rw (eq-eqb _ _ (sym c.index.ensures ∙ c.if-index-t.true))
 
 returns-2 : tie.Need-returns
 unfolding point_of
-returns-2 c = rw (ne_eqb _ _ (λ e. c.before.if-index-t.false (c.before.before.before.index.ensures ∙ e))) c.narrow.ensures
+returns-2 c = rw (ne_eqb _ _ (λ e. c.if-index-t.false (c.index.ensures ∙ e))) c.narrow.ensures
 
 pub point_spec : {M : Type 1} → statement M
 point_spec =

@@ -11,9 +11,9 @@ abbrev decreases-loop : tie.decreases-loop-t
 decreases-loop n homes reads read-heights leads₀ seen₀ r₀ t₀ leads seen r t = n - t
 
 add-lead-requires : tie.Need-add_lead-r-requires invariant-loop decreases-loop
-add-lead-requires c κs = let p = c.before.before.before.before.before.before.before.before.requires in
-    let i = c.before.before.before.loop-t.invariant in
-    ((p.0, (p.1.0, (omega (arith, p.1.1, i.long), c.before.before.loop-t-test.true))), rw i.long i)
+add-lead-requires c κs = let p = c.requires in
+    let i = c.loop-t.invariant in
+    ((p.0, (p.1.0, (omega (arith, p.1.1, i.long), c.loop-t-test.true))), rw i.long i)
 
 pub fill_leads_spec : {M : Type 1} → statement M
 fill_leads_spec =
@@ -21,10 +21,10 @@ fill_leads_spec =
     (tie.spec
     invariant-loop
     decreases-loop
-    (λ c. leading_start c.before.before.before.before.args.leads.now)
+    (λ c. leading_start c.args.leads.now)
     add-lead-requires
     (λ c. omega arith)
     (λ c. omega arith)
-    (λ c. rw c.before.before.before.before.before.before.loop-t.invariant.long at c.before.before.add_lead-r.ensures)
-    (λ c. c.before.loop-t.invariant.long)
-    (λ c. leading_done c.before.before.before.before.before.before.requires.1.1 c.loop-t-test.false c.before.loop-t.invariant))
+    (λ c. rw c.loop-t.invariant.long at c.add_lead-r.ensures)
+    (λ c. c.loop-t.invariant.long)
+    (λ c. leading_done c.requires.1.1 c.loop-t-test.false c.loop-t.invariant))

@@ -10,7 +10,7 @@ abbrev decreases-loop : tie.decreases-loop-p
 decreases-loop n t r homes reads read-heights leads seen y start p₀ p = 8 - p
 
 slot-requires : tie.Need-slot-start-requires invariant-loop decreases-loop
-slot-requires c κs = let s = c.before.before.before.before.before.before in
+slot-requires c κs = let s = c in
     let C = s.requires.column in
     (omega (arith, C.below s.args.t.0 s.requires.inside, C.few), omega (arith, C.low s.args.t.0 s.requires.inside))
 
@@ -21,18 +21,18 @@ find_lead_spec =
     invariant-loop
     decreases-loop
     (λ c. omega arith)
-    (λ c. omega (arith, c.before.before.before.before.before.requires.column.classes_long, c.before.before.before.before.before.requires.inside))
+    (λ c. omega (arith, c.requires.column.classes_long, c.requires.inside))
     (λ c. omega arith)
-    (λ c. omega (arith, c.before.before.before.before.before.before.requires.column.heights_long, c.before.before.before.before.before.before.requires.inside))
+    (λ c. omega (arith, c.requires.column.heights_long, c.requires.inside))
     slot-requires
     (λ c. omega arith)
-    (λ c. omega (arith, c.before.before.slot-start.ensures.1))
+    (λ c. omega (arith, c.slot-start.ensures.1))
     (λ c κs. search rules)
     (λ c h. absurd (omega arith))
     (λ c. omega arith)
-    (λ c κs. c.before.before.before.before.before.before.before.before.before.before.before.before.requires)
-    (λ c _. c.before.is-led.ensures c.if2.true)
+    (λ c κs. c.requires)
+    (λ c _. c.is_led.ensures c.if-is_led.true)
     (λ c. omega arith)
     (λ c. omega arith)
     (λ c. omega arith)
-    (λ c h. absurd (omega (arith, c.before.before.slot.ensures.1))))
+    (λ c h. absurd (omega (arith, c.slot-start.ensures.1))))

@@ -6,11 +6,11 @@ use Rattle.points.proofs.leads.is_led.Statement.{statement}
 use Rattle.points.proofs.leads.is_led.Tie as tie
 
 reads-same-requires : tie.Need-reads_same-requires
-reads-same-requires c κs = let p = c.before.before.before.before.before.before.requires in
-    (p.column, (p.homes_long, (rw c.linked.ensures (p.below c.before.before.before.before.before.before.args.k c.before.if-r-k.false), p.inside)))
+reads-same-requires c κs = let p = c.requires in
+    (p.column, (p.homes_long, (rw c.linked.ensures (p.below c.args.k c.if-r-k.false), p.inside)))
 
 returns-2 : tie.Need-returns
-returns-2 c = λ e. led_by c.before.before.if-r-k.false (rw c.before.linked.ensures at (c.reads_same.ensures e))
+returns-2 c = λ e. led_by c.if-r-k.false (rw c.linked.ensures at (c.reads_same.ensures e))
 
 pub is_led_spec : {M : Type 1} → statement M
 is_led_spec =

@@ -5,7 +5,7 @@ use Rattle.points.proofs.leads.reads_same.Statement.{statement}
 use Rattle.points.proofs.leads.reads_same.Tie as tie
 
 returns : tie.Need-returns
-returns c = λ e. same_read _ _ _ _ _ (rw c.before.before.is_at.ensures at e)
+returns c = λ e. same_read _ _ _ _ _ (rw c.is_at.ensures at e)
 
 pub reads_same_spec : {M : Type 1} → statement M
 reads_same_spec =

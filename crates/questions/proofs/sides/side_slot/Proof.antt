@@ -5,13 +5,13 @@ use Rattle.questions.proofs.sides.side_slot.Statement.{statement}
 use Rattle.questions.proofs.sides.side_slot.Tie as tie
 
 add-far : tie.Need-overflow_add-far
-add-far c = let s = c.before.before.before.before in omega (arith, s.requires.0.left_low s.args.k.0 s.requires.1)
+add-far c = let s = c in omega (arith, s.requires.0.left_low s.args.k.0 s.requires.1)
 
 sub-far : tie.Need-overflow_sub-far
-sub-far c = let s = c.before.before.before.before.before in omega (arith, s.requires.0.right_low s.args.k.0 s.requires.1)
+sub-far c = let s = c in omega (arith, s.requires.0.right_low s.args.k.0 s.requires.1)
 
 slot-requires : tie.Need-slot-requires
-slot-requires c κs = let s = c.before.before.before.before.before.before in (s.requires.0.below s.args.k.0 s.requires.1, omega (arith, s.requires.0.left_low s.args.k.0 s.requires.1))
+slot-requires c κs = let s = c in (s.requires.0.below s.args.k.0 s.requires.1, omega (arith, s.requires.0.left_low s.args.k.0 s.requires.1))
 
 pub side_slot_spec : {M : Type 1} → statement M
 side_slot_spec =

@@ -15,19 +15,19 @@ abbrev decreases-loop : tie.decreases-loop-k
 decreases-loop m left-classes left-heights right-heights slotted₀ k₀ slotted k = m - k
 
 slice-write-slotted : tie.Need-bounds-slotted-k invariant-loop decreases-loop
-slice-write-slotted c = omega (arith, c.before.before.before.before.before.before.before.requires.1, c.before.loop-k-test.true, c.before.before.loop-k.invariant.1.long)
+slice-write-slotted c = omega (arith, c.requires.1, c.loop-k-test.true, c.loop-k.invariant.1.long)
 
 loop-again : tie.Need-loop-k-preserved invariant-loop decreases-loop
-loop-again c = (omega (arith, c.before.loop-k-test.true), filled_more _ 0 c.before.before.loop-k.invariant.1 (omega (arith, c.before.loop-k-test.true, c.before.before.before.before.before.before.before.requires.1)) c.side_slot.ensures)
+loop-again c = (omega (arith, c.loop-k-test.true), filled_more _ 0 c.loop-k.invariant.1 (omega (arith, c.loop-k-test.true, c.requires.1)) c.side_slot.ensures)
 
 same_length : tie.Need-shape_of-slotted invariant-loop decreases-loop
-same_length c = c.before.loop-k.invariant.1.long
+same_length c = c.loop-k.invariant.1.long
 
 side-slot-requires : tie.Need-side_slot-requires invariant-loop decreases-loop
-side-slot-requires c κs = (c.before.before.before.before.before.before.requires.0, c.loop-k-test.true)
+side-slot-requires c κs = (c.requires.0, c.loop-k-test.true)
 
 returns : tie.Need-returns invariant-loop decreases-loop
-returns c = let i = c.before.loop-k.invariant in record { long = i.1.long; done = λ j h. i.1.done j (omega (arith, c.loop-k-test.false)) }
+returns c = let i = c.loop-k.invariant in record { long = i.1.long; done = λ j h. i.1.done j (omega (arith, c.loop-k-test.false)) }
 
 pub side_slots_spec : {M : Type 1} → statement M
 side_slots_spec =

@@ -31,26 +31,26 @@ now c = let l = c.take-line.new.1.1.1 in rows l.0 l.1.0 l.1.1.0
 sized : (c : tie.After-take_line invariant-loop decreases-loop) → SameSizes (lent c) (now c)
 sized c =
     let k = c.take_line.auto.1.1.1 in
-    let s = c.before.before.before.before.before.before.before.loop-start.invariant.1 in
+    let s = c.loop-start.invariant.1 in
     record { terms = k.0 ∙ s.terms; propositions = k.1.0 ∙ s.propositions; questions = k.1.1.0 ∙ s.questions }
 
 -- what the line leaves
 stepped : (c : tie.After-take_line invariant-loop decreases-loop)
-    → (let text = c.before.before.before.before.before.before.before.before.before.args.text.now in
-    let l = c.before.before.before.before.before.before.before.loop-start in
+    → (let text = c.args.text.now in
+    let l = c.loop-start in
     After (lent c) (step l.invariant.0.records (line_of text l.start (end_of_line text l.start))) c.take_line.result (now c))
 stepped c =
-    let p = c.before.before.before.before.before.before.before.loop-start.invariant.0 in
-    rw (← c.before.before.before.before.before.line_end_lem.ensures) (c.take_line.ensures p.records _ c.before.before.before.before.before.before.before.before.before.requires p.counts p.cells)
+    let p = c.loop-start.invariant.0 in
+    rw (← c.line_end-end.ensures) (c.take_line.ensures p.records _ c.requires p.counts p.cells)
 
 loop-holds : tie.Need-loop-start-init invariant-loop decreases-loop
 loop-holds c = (progress_none _ _, record { terms = refl; propositions = refl; questions = refl })
 
 line-end-requires : tie.Need-line_end-end-requires invariant-loop decreases-loop
-line-end-requires c κs = c.before.loop-start.invariant.0.within
+line-end-requires c κs = c.loop-start.invariant.0.within
 
 sub-line : tie.Need-slice_bounds-line-count invariant-loop decreases-loop
-sub-line c = rw c.line_end_lem.ensures (end_after _ c.before.before.loop-start.start)
+sub-line c = rw c.line_end-end.ensures (end_after _ c.loop-start.start)
 
 part-line-start : tie.Need-slice-bounds-line-start invariant-loop decreases-loop
 part-line-start c = rw c.line_end_lem.ensures (end_after _ c.before.before.loop.start)
@@ -59,12 +59,12 @@ part-line-end : tie.Need-slice-bounds-line-end invariant-loop decreases-loop
 part-line-end c = rw c.line_end_lem.ensures (end_within _ c.before.before.loop.start c.before.before.loop.invariant.0.within)
 
 take-line-requires : tie.Need-take_line-requires invariant-loop decreases-loop
-take-line-requires c κs = room_sized c.before.before.before.before.before.before.before.before.requires c.before.before.before.before.before.before.loop-start.invariant.1
+take-line-requires c κs = room_sized c.requires c.loop-start.invariant.1
 
 sub-size : tie.Need-overflow_sub-size invariant-loop decreases-loop
 sub-size c =
-    let l = c.before.before.before.before.before.before.before.before.before.before.before.before.before.loop-start in
-    omega (arith, c.before.before.before.before.before.before.before.before.before.before.before.line_end_lem.ensures, end_after c.before.before.before.before.before.before.before.before.before.before.before.before.before.before.before.args.text.now l.start, c.before.before.before.before.before.before.before.before.before.before.before.before.loop-start-test.true)
+    let l = c.loop-start in
+    omega (arith, c.line_end-end.ensures, end_after c.args.text.now l.start, c.loop-start-test.true)
 
 same_length : tie.Need-shape_of-terms-in-Refused invariant-loop decreases-loop
 same_length c = (sized c.before.before.before.before.before.before).terms
@@ -77,47 +77,47 @@ same-length-3 c = (sized c.before.before.before.before.before.before).questions
 
 returns : tie.Need-returns-in-Refused invariant-loop decreases-loop
 returns c =
-    let k = c.before.before.before.before.before.before in
-    let l = k.before.before.before.before.before.before.before.loop-start in
-    rw k.before.before.before.before.before.line_end_lem.ensures
-    (progress_refused _ _ _ _ l.start l.place l.invariant.0 k.before.before.before.before.before.before.loop-start-test.true _ _ (rw c.before.refusal-1.given.1 at (stepped k)))
+    let k = c in
+    let l = k.loop-start in
+    rw k.line_end-end.ensures
+    (progress_refused _ _ _ _ l.start l.place l.invariant.0 k.loop-start-test.true _ _ (rw c.in-Refused.is at (stepped k.before.before.before.before.before.before)))
 
 add_start : tie.Need-overflow_add-start invariant-loop decreases-loop
 add_start c =
-    let l = c.before.before.before.before.before.before.before.before.before.before.before.before.before.loop-start in
-    let s = c.before.before.before.before.before.before.before.before.before.before.before.before.before.before.before in
-    omega (arith, c.before.before.before.before.before.before.before.before.before.before.before.line_end_lem.ensures, end_within s.args.text.now l.start l.invariant.0.within, s.well_formed.0.1)
+    let l = c.loop-start in
+    let s = c in
+    omega (arith, c.line_end-end.ensures, end_within s.args.text.now l.start l.invariant.0.within, s.well_formed.0.1)
 
 add-place : tie.Need-overflow_add-place invariant-loop decreases-loop
 add-place c =
-    let l = c.before.before.before.before.before.before.before.before.before.before.before.before.before.loop-start in
-    omega (arith, l.invariant.0.few, c.before.before.before.before.before.before.before.before.before.before.before.before.loop-start-test.true, c.before.before.before.before.before.before.before.before.before.before.before.before.before.before.before.well_formed.0.0)
+    let l = c.loop-start in
+    omega (arith, l.invariant.0.few, c.loop-start-test.true, c.well_formed.0.0)
 
 loop-less : tie.Need-loop-start-smaller invariant-loop decreases-loop
 loop-less c =
-    let l = c.before.before.before.before.before.before.before.before.before.before.before.before.before.loop-start in
-    omega (arith, c.before.before.before.before.before.before.before.before.before.before.before.line_end_lem.ensures, end_after c.before.before.before.before.before.before.before.before.before.before.before.before.before.before.before.args.text.now l.start, c.before.before.before.before.before.before.before.before.before.before.before.before.loop-start-test.true)
+    let l = c.loop-start in
+    omega (arith, c.line_end-end.ensures, end_after c.args.text.now l.start, c.loop-start-test.true)
 
 loop-again : tie.Need-loop-start-preserved invariant-loop decreases-loop
 loop-again c =
-    let k = c.before.before.before.before.before.before in
-    let l = k.before.before.before.before.before.before.before.loop-start in (
-      rw k.before.before.before.before.before.line_end_lem.ensures
-          (progress_more _ _ _ _ l.start l.place l.invariant.0 k.before.before.before.before.before.before.loop-start-test.true _ _ (rw c.before.more-1.given.1 at (stepped k))),
-      sized k,
+    let k = c in
+    let l = k.loop-start in (
+      rw k.line_end-end.ensures
+          (progress_more _ _ _ _ l.start l.place l.invariant.0 k.loop-start-test.true _ _ (rw c.in-Accepted.is at (stepped k.before.before.before.before.before.before))),
+      sized k.before.before.before.before.before.before,
     )
 
 same-length-4 : tie.Need-shape_of-terms invariant-loop decreases-loop
-same-length-4 c = c.before.loop-start.invariant.1.terms
+same-length-4 c = c.loop-start.invariant.1.terms
 
 same-length-5 : tie.Need-shape_of-propositions invariant-loop decreases-loop
-same-length-5 c = c.before.loop-start.invariant.1.propositions
+same-length-5 c = c.loop-start.invariant.1.propositions
 
 same-length-6 : tie.Need-shape_of-questions invariant-loop decreases-loop
-same-length-6 c = c.before.loop-start.invariant.1.questions
+same-length-6 c = c.loop-start.invariant.1.questions
 
 returns-2 : tie.Need-returns invariant-loop decreases-loop
-returns-2 c = progress_all _ _ _ _ _ _ c.before.loop-start.invariant.0 (omega arith)
+returns-2 c = progress_all _ _ _ _ _ _ c.loop-start.invariant.0 (omega arith)
 
 pub load_spec : {M : Type 1} → statement M
 load_spec =

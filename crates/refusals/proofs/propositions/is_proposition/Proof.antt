@@ -9,15 +9,15 @@ use Rattle.refusals.proofs.propositions.is_proposition.Tie as tie
 
 returns : tie.Need-returns-then-r
 returns c =
-    let t = c.before.before in
-    let r = t.before.before.before.args.r in
-    rw (c.in_range_lem.ensures, to_z-of_z w64 r.offset (sfits_of c.before.struct_told-1.given.1.1.0.1)) (is_proposition_lem r true t.if-r.true)
+    let t = c in
+    let r = t.args.r in
+    rw (c.in_range.ensures, to_z-of_z w64 r.offset (sfits_of c.struct_told-1.given.1.1.0.1)) (is_proposition_lem r true t.if-r.true)
 
 returns-2 : tie.Need-returns
 returns-2 c =
-    let t = c.before.before.before in
-    let r = t.before.before.before.args.r in
-    rw (c.is_same.ensures, to_z-of_z w64 r.offset (sfits_of c.before.struct_told-2-1.given.1.1.0.1)) (is_proposition_lem r false t.if-r.false)
+    let t = c in
+    let r = t.args.r in
+    rw (c.is_same.ensures, to_z-of_z w64 r.offset (sfits_of c.struct_told-2-1.given.1.1.0.1)) (is_proposition_lem r false t.if-r.false)
 
 pub is_proposition_spec : {M : Type 1} → statement M
 is_proposition_spec = tie.close (tie.spec (λ c κs. search rules) returns (λ c κs. search rules) returns-2)

@@ -23,22 +23,22 @@ abbrev faults : tie.Start invariant-loop decreases-loop → ℕ → Option Refus
 faults s = λ k. question_fault s.args.n (asked (question_in s.args.questions.now k))
 
 found : (c : tie.After-judge_question-found invariant-loop decreases-loop) → let l = c.before.before.before in c.judge-question.result ≡ judged l.loop.i (faults l.before l.loop.i)
-found c = rw c.before.question_at.ensures at c.judge_question-found.ensures
+found c = rw c.question_at.ensures at c.judge_question-found.ensures
 
 returns : tie.Need-returns-in_default invariant-loop decreases-loop
 unfolding questions_fault
 returns c =
-    let l = c.before.before.before.before.before in
-    stops (faults l.before) (omega arith) l.loop-i.invariant (found c.before.before) c.enum_told-in_default-1.given.1
+    let l = c in
+    stops (faults l.before) (omega arith) l.loop-i.invariant (found c.before.before) c.in_default.is
 
 loop-again : tie.Need-loop-i-preserved invariant-loop decreases-loop
 loop-again c =
-    let l = c.before.before.before.before.before in
-    goes_on (faults l.before) (omega arith) l.loop-i.invariant (found c.before.before) c.enum_told-1.given.1
+    let l = c in
+    goes_on (faults l.before) (omega arith) l.loop-i.invariant (found c.before.before) c.in-Accepted.is
 
 returns-2 : tie.Need-returns invariant-loop decreases-loop
 unfolding questions_fault
-returns-2 c = let l = c.before in ends (faults l.before) (omega arith) l.loop-i.invariant
+returns-2 c = let l = c in ends (faults l.before) (omega arith) l.loop-i.invariant
 
 pub check_questions_spec : {M : Type 1} → statement M
 check_questions_spec =

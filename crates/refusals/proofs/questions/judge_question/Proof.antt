@@ -15,25 +15,25 @@ use Rattle.refusals.proofs.questions.judge_question.Tie as tie
 -- what `in_range` finds
 found : (c : tie.After-in_range) → is_some (question_of (asked c.before.before.args.r)) ≡ c.in_range_lem.result
 found c =
-    let r = c.before.before.args.r in
-    is_question (asked r) ∙ sym (rw (to_z-of_z w64 r.offset (sfits_of c.before.struct_told-1.given.1.0.1)) at c.in_range_lem.ensures)
+    let r = c.args.r in
+    is_question (asked r) ∙ sym (rw (to_z-of_z w64 r.offset (sfits_of c.struct_told-1.given.1.0.1)) at c.in_range.ensures)
 
 returns : tie.Need-returns-then-not-in_range
 unfolding question_fault
-returns c = c.refuse.ensures ∙ rw (not_formed _ _ (found c.before.before ∙ not-true _ c.before.if-not-in_range.true))
+returns c = c.refuse.ensures ∙ rw (not_formed _ _ (found c.before.before ∙ c.if-not-in_range.true))
 
 returns-2 : tie.Need-returns-then-unlisted
 unfolding question_fault question_name_fault
 returns-2 c =
-    let u = c.before.before in
-    let j = u.before in
-    c.refuse-then-unlisted.ensures ∙ rw (formed _ _ (found j.before ∙ not-false _ j.if-not-in_range.false), ← u.unlisted.ensures, c.before.if-unlisted.true)
+    let u = c in
+    let j = u in
+    c.refuse-then-unlisted.ensures ∙ rw (formed _ _ (found j.before.before.before.before ∙ j.if-not-in_range.false), ← u.unlisted.ensures, c.if-unlisted.true)
 
 returns-3 : tie.Need-returns
 unfolding question_fault question_name_fault
 returns-3 c =
-    let j = c.before.before in
-    rw (formed _ _ (found j.before ∙ not-false _ j.if-not-in_range.false), ← c.before.unlisted.ensures, c.if-unlisted.false)
+    let j = c in
+    rw (formed _ _ (found j.before.before.before ∙ j.if-not-in_range.false), ← c.unlisted.ensures, c.if-unlisted.false)
 
 pub judge_question_spec : {M : Type 1} → statement M
 judge_question_spec = tie.close (tie.spec (λ c κs. search rules) (λ c κs. search rules) returns (λ c κs. search rules) (λ c κs. search rules) returns-2 returns-3)

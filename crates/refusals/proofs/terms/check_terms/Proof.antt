@@ -38,37 +38,37 @@ parts s = ap acceptance (term_faults (term_in s.args.terms.now) (count s))
 -- where the first search does not decide, its fault comes after that place
 later : (c : tie.Joined-found) → let s = c.before.before.before in Later (own s) (again s) AtomListedTwice (count s) (place s)
 later c =
-    let s = c.before.before.before in
-    let e = c.before.first_own_fault-found.ensures in
+    let s = c in
+    let e = c.first_own_fault-found.ensures in
     ⊎_elim
-    (λ w. later_fault (own s) (again s) AtomListedTwice (count s) e w.1.given.1 (rw c.before.before.first_repeat-repeat.ensures at w.4.left))
+    (λ w. later_fault (own s) (again s) AtomListedTwice (count s) e w.1.given.1 (rw c.first_repeat-repeat.ensures at w.4.left))
     (λ w. later_clear (own s) (again s) AtomListedTwice (count s) e w.1.given.1)
     c.match-found.branch
 
 returns : tie.Need-returns-then-fault-repeat
 returns c =
-    let f = c.before.before.before in
-    let m = f.before.before in
-    let s = m.before.before in
-    let e = f.found-1.given.1 in
+    let f = c in
+    let m = f in
+    let s = m in
+    let e = f.in-Refused.is in
     sym e
-    ∙ takes_first (own s) (again s) AtomListedTwice (count s) m.first_own_fault-found.ensures e (rw m.before.first_repeat-repeat.ensures at c.if-fault-repeat.true)
+    ∙ takes_first (own s) (again s) AtomListedTwice (count s) m.first_own_fault-found.ensures e (rw m.first_repeat-repeat.ensures at c.if-fault-repeat.true)
     ∙ parts s
 
 returns-2 : tie.Need-returns-then-repeat-terms
 returns-2 c =
-    let m = c.before.before.before in
-    let s = m.before.before in
-    let e = m.before.first_repeat-repeat.ensures in
+    let m = c in
+    let s = m in
+    let e = m.first_repeat-repeat.ensures in
     (rw e at c.refuse.ensures)
-    ∙ takes_second (own s) (again s) AtomListedTwice (count s) (later c.before.before) (rw e at c.before.if-repeat-terms.true)
+    ∙ takes_second (own s) (again s) AtomListedTwice (count s) (later c.before.before) (rw e at c.if-repeat-terms.true)
     ∙ parts s
 
 returns-3 : tie.Need-returns
 returns-3 c =
-    let m = c.before.before in
-    let s = m.before.before in
-    takes_none (own s) (again s) AtomListedTwice (count s) (later c.before) (rw m.before.first_repeat-repeat.ensures at c.if-repeat-terms.false) ∙ parts s
+    let m = c in
+    let s = m in
+    takes_none (own s) (again s) AtomListedTwice (count s) (later c.before) (rw m.first_repeat-repeat.ensures at c.if-repeat-terms.false) ∙ parts s
 
 pub check_terms_spec : {M : Type 1} → statement M
 check_terms_spec =

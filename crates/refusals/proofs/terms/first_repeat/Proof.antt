@@ -42,41 +42,41 @@ found c = sym (rw (c.before.before.before.before.before.before.before.term-at.en
 
 scan-again : tie.Need-scan-preserved-then-note_atom invariant-loop decreases-loop invariant-scan decreases-scan
 scan-again c =
-    let t = c.before.before.before in
-    let s = t.before.before in
+    let t = c in
+    let s = t in
     let rec = records s.before in
-    let N = rw t.term_at-term.ensures at c.before.note_atom.ensures in
+    let N = rw t.term_at-term.ensures at c.note_atom.ensures in
     let clear = no_repeat rec s.scan.i (unlisted rec s.scan.invariant.1.1 N c.if-note_atom.true) in
     (s.scan.invariant.0, (passes (repeat_fault_at rec) (omega arith) s.scan.invariant.1.0 clear, listed_more rec s.scan.invariant.1.1 N))
 
 loop-again : tie.Need-loop-j-preserved invariant-loop decreases-loop invariant-scan decreases-scan
 loop-again c =
-    let l = c.before.before.before.before.loop-j in
+    let l = c.loop-j in
     (omega arith, (l.invariant.1.0, below_more _ l.j l.invariant.1.1 (found c.before ∙ c.if-same_atom.false)))
 
 scan-again-2 : tie.Need-scan-preserved invariant-loop decreases-loop invariant-scan decreases-scan
 scan-again-2 c =
-    let l = c.before.loop-j in
-    let t = c.before.before.before.before.before in
-    let s = t.before.before in
+    let l = c.loop-j in
+    let t = c in
+    let s = t in
     let rec = records s.before in
     let e : l.j ≡ s.scan.i = omega arith in
-    let N = rw t.term_at-term.ensures at c.before.before.before.note_atom.ensures in
+    let N = rw t.term_at-term.ensures at c.note_atom.ensures in
     let clear = no_repeat rec s.scan.i (rw e at l.invariant.1.1) in
     (l.invariant.1.0, (passes (repeat_fault_at rec) (omega arith) s.scan.invariant.1.0 clear, listed_more rec s.scan.invariant.1.1 N))
 
 returns : tie.Need-returns-after-scan invariant-loop decreases-loop invariant-scan decreases-scan
 returns c =
-    let l = c.before.scan in
-    let s = c.before.before in
+    let l = c.scan in
+    let s = c in
     let n = length s.args.terms.now in
     l.invariant.0 ∙ sym (ap (place_or n) (first_clear (repeat_fault_at (records s)) n l.i (omega arith) l.invariant.1.0))
 
 returns-2 : tie.Need-returns-then-same_atom invariant-loop decreases-loop invariant-scan decreases-scan
 returns-2 c =
-    let l = c.before.before.before.before.loop-j in
-    let o = c.before.before.before.before.before.before.before.before.before.before in
-    let s = o.before in
+    let l = c.loop-j in
+    let o = c in
+    let s = o in
     let n = length s.args.terms.now in
     let again = repeats (records s) o.scan.i l.j (omega arith) (found c.before ∙ c.if-same_atom.true) in
     sym (ap (place_or n) (first_found (repeat_fault_at (records s)) n o.scan.i (omega arith) o.scan.invariant.1.0 again))

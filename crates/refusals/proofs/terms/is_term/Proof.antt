@@ -12,17 +12,17 @@ use Rattle.refusals.proofs.terms.is_term.Tie as tie
 returns : tie.Need-returns-then-is_atom
 unfolding atom_record
 returns c =
-    let a = c.before.before.before.before in
-    let r = a.before.args.r in
-    rw (c.is_same.ensures, to_z-of_z w64 r.offset (sfits_of c.before.struct_told-1.given.1.1.0.1))
-    (is_term_lem r true (sym a.is_atom.ensures ∙ c.before.before.before.if-is_atom.true))
+    let a = c in
+    let r = a.args.r in
+    rw (c.is_same.ensures, to_z-of_z w64 r.offset (sfits_of c.struct_told-1.given.1.1.0.1))
+    (is_term_lem r true (sym a.is_atom.ensures ∙ c.if-is_atom.true))
 
 returns-2 : tie.Need-returns
 returns-2 c =
-    let a = c.before.before.before.before in
-    let r = a.before.args.r in
-    rw (c.in_range_lem.ensures, to_z-of_z w64 r.offset (sfits_of c.before.struct_told-2-1.given.1.1.0.1))
-    (is_term_lem r false (sym a.is_atom.ensures ∙ c.before.before.before.if-is_atom.false))
+    let a = c in
+    let r = a.args.r in
+    rw (c.in_range.ensures, to_z-of_z w64 r.offset (sfits_of c.struct_told-2-1.given.1.1.0.1))
+    (is_term_lem r false (sym a.is_atom.ensures ∙ c.if-is_atom.false))
 
 pub is_term_spec : {M : Type 1} → statement M
 is_term_spec = tie.close (tie.spec (λ c κs. search rules) (λ c κs. search rules) returns (λ c κs. search rules) returns-2)

@@ -10,20 +10,20 @@ use Rattle.refusals.proofs.terms.judge_term.Tie as tie
 returns : tie.Need-returns-then-not-is_term
 unfolding own_fault
 returns c =
-    let j = c.before in
-    c.refuse.ensures ∙ rw (not_formed _ _ (sym j.before.is_term_lem.ensures ∙ not-true _ j.if-not-is_term.true))
+    let j = c in
+    c.refuse.ensures ∙ rw (not_formed _ _ (sym j.is_term.ensures ∙ j.if-not-is_term.true))
 
 returns-2 : tie.Need-returns-then-r-place
 unfolding own_fault
 returns-2 c =
-    let j = c.before.before.before in
-    c.refuse-then-r-place.ensures ∙ rw (formed _ _ (sym j.before.is_term_lem.ensures ∙ not-false _ j.if-not-is_term.false), c.before.if-r-place.true)
+    let j = c in
+    c.refuse-then-r-place.ensures ∙ rw (formed _ _ (sym j.is_term.ensures ∙ j.if-not-is_term.false), c.if-r-place.true)
 
 returns-3 : tie.Need-returns
 unfolding own_fault
 returns-3 c =
-    let j = c.before.before in
-    rw (formed _ _ (sym j.before.is_term_lem.ensures ∙ not-false _ j.if-not-is_term.false), c.if-r-place.false)
+    let j = c in
+    rw (formed _ _ (sym j.is_term.ensures ∙ j.if-not-is_term.false), c.if-r-place.false)
 
 pub judge_term_spec : {M : Type 1} → statement M
 judge_term_spec = tie.close (tie.spec (λ c κs. search rules) (λ c κs. search rules) returns (λ c κs. search rules) returns-2 returns-3)

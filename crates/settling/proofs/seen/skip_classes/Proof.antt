@@ -14,25 +14,25 @@ abbrev decreases-loop : tie.decreases-loop-a
 decreases-loop n owners owner-first owner-next seen₀ a₀ seen a = n - a
 
 loop-holds : tie.Need-loop-a-init invariant-loop decreases-loop
-loop-holds c = c.before.before.before.before.requires.0
+loop-holds c = c.requires.0
 
 skip-class-requires : tie.Need-skip_class-requires invariant-loop decreases-loop
-skip-class-requires c κs = let q = c.before.before.before.before.before.before.before.requires in (c.before.before.loop-a.invariant, (q.1.0, (c.before.loop-a-test.true, q.1.1)))
+skip-class-requires c κs = let q = c.requires in (c.loop-a.invariant, (q.1.0, (c.loop-a-test.true, q.1.1)))
 
 add_a : tie.Need-overflow_step-a invariant-loop decreases-loop
-add_a c = omega (arith, c.before.before.before.before.loop-a-test.true, c.before.before.before.before.before.before.before.before.before.before.requires.1.0)
+add_a c = omega (arith, c.loop-a-test.true, c.requires.1.0)
 
 loop-less : tie.Need-loop-a-smaller invariant-loop decreases-loop
-loop-less c = omega (arith, c.before.before.before.before.loop-a-test.true)
+loop-less c = omega (arith, c.loop-a-test.true)
 
 loop-again : tie.Need-loop-a-preserved invariant-loop decreases-loop
-loop-again c = c.before.before.skip_class.ensures
+loop-again c = c.skip_class.ensures
 
 same_length : tie.Need-shape_of-seen invariant-loop decreases-loop
-same_length c = c.before.loop-a.invariant.long ∙ sym c.before.before.before.before.before.before.requires.0.long
+same_length c = c.loop-a.invariant.long ∙ sym c.requires.0.long
 
 returns : tie.Need-returns invariant-loop decreases-loop
-returns c = c.before.loop-a.invariant
+returns c = c.loop-a.invariant
 
 pub skip_classes_spec : {M : Type 1} → statement M
 skip_classes_spec =
