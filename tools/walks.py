@@ -17,7 +17,7 @@ WORD = r"[^\s(){}.,;:=→×@\"`|«»]+"
 def plain(name):
     """A name as port.py may have left it, in one spelling."""
     name = re.sub(r"-lem\b", "", name.replace("_", "-"))
-    return name[len("overflow-"):] if name.startswith("overflow-") else name
+    return re.sub(r"^(?:overflow|nonzero)-", "", name)
 
 
 class Plain(dict):
@@ -50,6 +50,8 @@ class Function:
             self.parent[name], self.step[name], self.callee[name] = parent, step, callee
         self.arms = Plain((p[0], arm) for p, arm in zip(told["places"], told["arms"]))
         self.new_place = Plain(zip([p[0] for p in told["places"]], told["places_by_name"]))
+        self.params = told["params"]
+        self.variables = [(pair[0][0], pair[1]) for pair in told["loops"]]
         self.loops = Plain((pair[0][0], pair[0][1]) for pair in told["loops"])
 
     def outward(self, place):
@@ -69,7 +71,7 @@ class Function:
             return [], place
         if rest[0] in ("args", "ranges", "requires", "lifetimes", "well_formed"):
             return rest, None
-        found = [p for p in self.outward(place) if self.step.get(p) and plain(rest[0]) in map(plain, self.step[p])]
+        found = [p for k in (0, 1) for p in self.outward(place) if self.step.get(p) and self.step[p][k] and plain(rest[0]) == plain(self.step[p][k])]
         if found:
             old, new = self.step[found[0]]
             best = None
@@ -80,16 +82,27 @@ class Function:
                         best = (arm[0], field, way)
             if best:
                 return [best[0], best[1], *rest[1 + len(best[2]):]], None
-            return [new, *rest[1:]], None
+            return [new, *self.kept(found[0], rest[1:])], None
         return rest, None
+
+    def kept(self, place, fields):
+        """`.auto.1.1.0` of a call or a loop is what it says of its third variable, which has its name now."""
+        m = re.match(r"auto((?:\.1)*)\.0$", ".".join(fields))
+        names = self.params.get(self.callee.get(place) or "") or dict(self.variables).get(self.step[place][0])
+        if not m or not names or m.group(1).count("1") >= len(names):
+            return fields
+        return ["auto", names[m.group(1).count("1")]]
 
     def before(self, place, to):
         """How to name a place from one after it."""
-        n = 0
+        n, last = 0, None
         for p in self.outward(place):
+            # the places of one arm are one record
+            if last is not None and not (self.arms.get(p) and self.arms.get(last) and self.arms[p][0] == self.arms[last][0]):
+                n += 1
+            last = p
             if plain(p) == plain(to):
                 return ".before" * n
-            n += 1
         return None
 
 
@@ -107,6 +120,8 @@ def turn(text, fn, name):
         return re.sub(r"tie\.([A-Z][\w'\-]*)", lambda m: "tie." + fn.new_place.get(m.group(1), m.group(1)), line)
 
     def paths(line):
+        nonlocal env
+
         def one(m):
             base, fields = m.group(1), m.group(2)[1:].split(".")
             place = env.get(base)
@@ -114,19 +129,19 @@ def turn(text, fn, name):
                 return m.group(0)
             new, end = fn.walk(place, fields)
             if end is not None:
-                helper = re.search(r"(" + WORD + r") $", line[: m.start()])
-                wants = signatures.get(helper.group(1), [None])[0] if helper else None
+                helper = re.search(r"(" + WORD + r") $", m.string[: m.start()])
+                wants = (signatures.get(helper.group(1)) or [None])[0] if helper else None
                 way = fn.before(place, wants) if wants else None
                 return base + way if way is not None else m.group(0)
             return ".".join([base, *new])
 
         def handed(m):
             """A place that a helper is given, which may be one before it."""
-            wants = signatures.get(m.group(1), [None])[0] if m.group(1) in signatures else None
-            if m.group(2) not in env or not wants:
+            helper = re.search(r"(?<![\w.'-])(" + WORD + r") $", m.string[: m.start()])
+            wants = (signatures.get(helper.group(1)) or [None])[0] if helper else None
+            if m.group(0) not in env or not wants:
                 return m.group(0)
-            way = fn.before(env[m.group(2)], wants)
-            return m.group(1) + " " + m.group(2) + (way or "")
+            return m.group(0) + (fn.before(env[m.group(0)], wants) or "")
 
         # an alias of a place: let l = c.before in
         pos, done = 0, ""
@@ -140,41 +155,54 @@ def turn(text, fn, name):
                     pos = m.end()
                     env[m.group(1)] = env[base]
         done = done + PATH.sub(one, line[pos:])
-        return re.sub(r"(?<![\w.'-])(" + WORD + r") ([\w'₀]+)(?![\w.'₀-])", handed, done)
+        return re.sub(r"(?<= )[\w'₀]+(?![\w.'₀-])", handed, done)
 
-    spec = None
-    for line in lines:
-        m = re.match(r"(\s*)(" + WORD + r") : (.*)$", line)
+    def sign(here, about):
+        """Notes the places that a helper takes, and binds its parameters for the lines of its type."""
+        need = re.match(r"tie\.Need-([\w'\-]+)", about)
+        if need:
+            signatures[here] = [fn.at.get(need.group(1))]
+            return
+        signatures[here] = []
+        for part in re.findall(r"\(([\w'₀ ]+) : tie\.([A-Z][\w'\-]*)[^()]*\)", about):
+            for name in part[0].split():
+                signatures[here].append(part[1])
+                env[name] = part[1]
+        if not signatures[here]:
+            for part in re.findall(r"tie\.([A-Z][\w'\-]*)(?: (?:invariant|decreases)-[\w\-]+)*(?= →|$)", about):
+                signatures[here].append(part)
+
+    at = 0
+    while at < len(lines):
+        line = lines[at]
+        m = re.match(r"(\s*)(?:abbrev )?(?:pub )?(" + WORD + r") :(?: (.*))?$", line)
         if m and not line.startswith("use "):
-            here, about = m.group(2), m.group(3)
-            need = re.match(r"tie\.Need-([\w'\-]+)", about)
-            if need:
-                signatures[here] = [fn.at.get(need.group(1))]
-            else:
-                signatures[here] = []
-                for part in re.findall(r"\(([\w'₀ ]+) : tie\.([A-Z][\w'\-]*)[^()]*\)", about):
-                    for _ in part[0].split():
-                        signatures[here].append(part[1])
-                if not signatures[here]:
-                    for part in re.findall(r"tie\.([A-Z][\w'\-]*)(?= →|$)", about):
-                        signatures[here].append(part)
-            out.append(types(line))
+            here, about, first = m.group(2), m.group(3) or "", at
+            while not re.match(r"\s*" + re.escape(here) + r"(?: |$)", lines[at + 1] if at + 1 < len(lines) else here) and at - first < 12:
+                at += 1
+                about += " " + lines[at].strip()
+            env = {}
+            sign(here, about)
+            for k in range(first, at + 1):
+                head = re.match(r"(\s*(?:abbrev )?(?:pub )?" + WORD + r" :)(.*)$", lines[k]) if k == first else None
+                out.append(head.group(1) + paths(types(head.group(2))) if head else paths(types(lines[k])))
+            at += 1
             continue
         m = re.match(r"(\s*)(" + WORD + r")((?: [\w'₀{}= ]+)?) =( |$)", line)
         if m and m.group(2) in signatures and "let" != m.group(2):
-            env = {k: v for k, v in env.items() if False} if not m.group(1) else dict(env)
+            env = {} if not m.group(1) else dict(env)
             params = re.sub(r"\{[^}]*\}", "", m.group(3)).split()
             for p, place in zip(params, signatures[m.group(2)]):
                 if place:
                     env[p] = place
-        if re.match(r"\s*\(tie\.spec|\s*tie\.close \(tie\.spec|.*tie\.spec", line):
-            spec = 0
         out.append(paths(types(line)))
+        at += 1
     text = "\n".join(out)
-    text = re.sub(r"\bnot-(?:true|false) (?:_|[\w'.₀\-]+|\([^()]*\)) ([\w'₀]+\.if-not-[\w\-']+\.(?:true|false))", r"\1", text)
     dashed = name.replace("_", "-")
     text = re.sub(r"(?<![\w\-'.])" + re.escape(dashed) + r"-spec(?![\w\-'])", name + "_spec", text)
-    return lambdas(text, fn)
+    text = lambdas(text, fn)
+    # a test of a negated call says what the call gave
+    return re.sub(r"\bnot-(?:true|false) (?:_|[\w'.₀\-]+|\([^()]*\)) ([\w'₀]+\.if-not-[\w\-']+\.(?:true|false))", r"\1", text)
 
 
 def split_args(text):

@@ -58,8 +58,8 @@ loop-again c =
     let e = sym t.drop_run.ensures.0 ∙ c.if-drop_run.true in
     record {
       trying = rw t.drop_run.ensures.1 (trying_dropped _ s.requires.0.good i.trying (omega (arith, a.run_start-low.ensures)) e);
-      reps_count = t.drop_run.auto.1.1.1.0 ∙ i.reps_count;
-      offs_count = t.drop_run.auto.1.1.1.1.0 ∙ i.offs_count;
+      reps_count = t.drop_run.auto.representatives ∙ i.reps_count;
+      offs_count = t.drop_run.auto.offsets ∙ i.offs_count;
       run_least = omega (arith, a.run_start-low.ensures, h, i.run_least);
       run_most = omega (arith, a.run_start-low.ensures, h, i.run_most);
     }
@@ -77,9 +77,9 @@ find-blamed-requires c κs =
     let same = t.drop_run.ensures.1 ∙ tried_kept _ l.loop-k.marks a.run_start-low.result l.loop-k.k stays in (
       record {
         good = s.requires.0.good;
-        marks_count = t.drop_run.auto.1.1.0 ∙ i.trying.count;
-        reps_count = t.drop_run.auto.1.1.1.0 ∙ i.reps_count;
-        offs_count = t.drop_run.auto.1.1.1.1.0 ∙ i.offs_count;
+        marks_count = t.drop_run.auto.marks ∙ i.trying.count;
+        reps_count = t.drop_run.auto.representatives ∙ i.reps_count;
+        offs_count = t.drop_run.auto.offsets ∙ i.offs_count;
       },
       ((omega (arith, a.run_start-low.ensures, h, i.run_least), i.trying.within, rw same i.trying.ones), rw same stays),
     )
@@ -98,8 +98,8 @@ loop-again-2 c =
     let e = b.find_blamed-blamed.ensures in
     record {
       trying = trying_blamed _ s.requires.0.good (rw same i.trying) e;
-      reps_count = b.find_blamed-blamed.auto.1.1.1.0 ∙ (t.drop_run.auto.1.1.1.0 ∙ i.reps_count);
-      offs_count = b.find_blamed-blamed.auto.1.1.1.1.0 ∙ (t.drop_run.auto.1.1.1.1.0 ∙ i.offs_count);
+      reps_count = b.find_blamed-blamed.auto.representatives ∙ (t.drop_run.auto.representatives ∙ i.reps_count);
+      offs_count = b.find_blamed-blamed.auto.offsets ∙ (t.drop_run.auto.offsets ∙ i.offs_count);
       run_least = omega arith;
       run_most = omega (arith, e.nonempty, e.below, i.trying.within);
     }

@@ -52,8 +52,8 @@ loop-again c =
     let e = sym t.drop_run.ensures.0 ∙ c.if-drop_run.true in
     record {
       blamed = rw t.drop_run.ensures.1 (upper_dropped w i.blamed mid (omega (arith, h)) (omega (arith, h)) e);
-      reps_count = t.drop_run.auto.1.1.1.0 ∙ i.reps_count;
-      offs_count = t.drop_run.auto.1.1.1.1.0 ∙ i.offs_count;
+      reps_count = t.drop_run.auto.representatives ∙ i.reps_count;
+      offs_count = t.drop_run.auto.offsets ∙ i.offs_count;
     }
 
 loop-again-2 : tie.Need-loop-high-preserved invariant-loop decreases-loop
@@ -68,8 +68,8 @@ loop-again-2 c =
     let e = sym t.drop_run.ensures.0 ∙ c.if-drop_run.false in
     record {
       blamed = rw t.drop_run.ensures.1 (upper_kept w i.blamed mid (omega (arith, h)) (omega (arith, h)) e);
-      reps_count = t.drop_run.auto.1.1.1.0 ∙ i.reps_count;
-      offs_count = t.drop_run.auto.1.1.1.1.0 ∙ i.offs_count;
+      reps_count = t.drop_run.auto.representatives ∙ i.reps_count;
+      offs_count = t.drop_run.auto.offsets ∙ i.offs_count;
     }
 
 same_length : tie.Need-shape_of-marks invariant-loop decreases-loop

@@ -38,10 +38,10 @@ step-requires c κs =
     (s.requires.0, (chased_labels _ _ c.loop.invariant.1.0, omega (arith, c.if-terms-x.false)))
 
 same-length-3 : tie.Need-shape_of-parents-then-not-step invariant-loop decreases-loop
-same-length-3 c = c.step.auto.1.0 ∙ chased_long _ _ c.loop.invariant.1.0
+same-length-3 c = c.step.auto.parents ∙ chased_long _ _ c.loop.invariant.1.0
 
 same-length-4 : tie.Need-shape_of-offsets-then-not-step invariant-loop decreases-loop
-same-length-4 c = c.step.auto.1.1.0 ∙ c.loop.invariant.1.1
+same-length-4 c = c.step.auto.offsets ∙ c.loop.invariant.1.1
 
 returns-2 : tie.Need-returns-then-not-step invariant-loop decreases-loop
 returns-2 c = chased_then _ _ c.loop.invariant.1.0 (rw (c.if-not-step.true) at c.step.ensures)
@@ -57,7 +57,7 @@ loop-again c = (
   omega (arith, c.loop-test.true),
   (
     chased_then _ _ c.loop.invariant.1.0 (rw (c.if-not-step.false) at c.step.ensures),
-    c.step.auto.1.1.0 ∙ c.loop.invariant.1.1,
+    c.step.auto.offsets ∙ c.loop.invariant.1.1,
   ),
 )
 

@@ -43,22 +43,22 @@ loop-less : tie.Need-loop-x-smaller invariant-loop decreases-loop
 loop-less c = let s = c in let k = unchanged_chased (length s.args.terms.now) (term_in s.args.terms.now) (chased_labels (length s.args.terms.now) (term_in s.args.terms.now) c.loop-x.invariant.0) (chased_chain (length s.args.terms.now) (term_in s.args.terms.now) c.loop-x.invariant.0) (chased_long (length s.args.terms.now) (term_in s.args.terms.now) c.loop-x.invariant.0) (flattened_unchanged c.flatten.ensures) in let v = flattened_view c.flatten.ensures in let a = rw v at (looked_pair (length s.args.terms.now) (term_in s.args.terms.now) (rw c.in-Pair.is at c.unequal_pair.ensures)) in rw (← c.flatten.ensures.same) (pair_lighter (length s.args.terms.now) (term_in s.args.terms.now) k a (rw c.in-Joined.is at c.join.ensures))
 
 loop-again : tie.Need-loop-x-preserved invariant-loop decreases-loop
-loop-again c = let s = c in let k = unchanged_chased (length s.args.terms.now) (term_in s.args.terms.now) (chased_labels (length s.args.terms.now) (term_in s.args.terms.now) c.loop-x.invariant.0) (chased_chain (length s.args.terms.now) (term_in s.args.terms.now) c.loop-x.invariant.0) (chased_long (length s.args.terms.now) (term_in s.args.terms.now) c.loop-x.invariant.0) (flattened_unchanged c.flatten.ensures) in let v = flattened_view c.flatten.ensures in let a = rw v at (looked_pair (length s.args.terms.now) (term_in s.args.terms.now) (rw c.in-Pair.is at c.unequal_pair.ensures)) in (pair_joined (length s.args.terms.now) (term_in s.args.terms.now) k a (rw c.in-Joined.is at c.join.ensures), c.join.auto.1.0 ∙ (c.flatten.ensures.offsets_long ∙ c.loop-x.invariant.1))
+loop-again c = let s = c in let k = unchanged_chased (length s.args.terms.now) (term_in s.args.terms.now) (chased_labels (length s.args.terms.now) (term_in s.args.terms.now) c.loop-x.invariant.0) (chased_chain (length s.args.terms.now) (term_in s.args.terms.now) c.loop-x.invariant.0) (chased_long (length s.args.terms.now) (term_in s.args.terms.now) c.loop-x.invariant.0) (flattened_unchanged c.flatten.ensures) in let v = flattened_view c.flatten.ensures in let a = rw v at (looked_pair (length s.args.terms.now) (term_in s.args.terms.now) (rw c.in-Pair.is at c.unequal_pair.ensures)) in (pair_joined (length s.args.terms.now) (term_in s.args.terms.now) k a (rw c.in-Joined.is at c.join.ensures), c.join.auto.offsets ∙ (c.flatten.ensures.offsets_long ∙ c.loop-x.invariant.1))
 
 same-length-3 : tie.Need-shape_of-parents-in-Held invariant-loop decreases-loop
-same-length-3 c = let s = c in c.join.auto.0 ∙ (c.flatten.ensures.long ∙ chased_long (length s.args.terms.now) (term_in s.args.terms.now) c.loop-x.invariant.0)
+same-length-3 c = let s = c in c.join.auto.parents ∙ (c.flatten.ensures.long ∙ chased_long (length s.args.terms.now) (term_in s.args.terms.now) c.loop-x.invariant.0)
 
 same-length-4 : tie.Need-shape_of-offsets-in-Held invariant-loop decreases-loop
-same-length-4 c = c.join.auto.1.0 ∙ (c.flatten.ensures.offsets_long ∙ c.loop-x.invariant.1)
+same-length-4 c = c.join.auto.offsets ∙ (c.flatten.ensures.offsets_long ∙ c.loop-x.invariant.1)
 
 returns-2 : tie.Need-returns-in-Held invariant-loop decreases-loop
 returns-2 c = let s = c in let k = unchanged_chased (length s.args.terms.now) (term_in s.args.terms.now) (chased_labels (length s.args.terms.now) (term_in s.args.terms.now) c.loop-x.invariant.0) (chased_chain (length s.args.terms.now) (term_in s.args.terms.now) c.loop-x.invariant.0) (chased_long (length s.args.terms.now) (term_in s.args.terms.now) c.loop-x.invariant.0) (flattened_unchanged c.flatten.ensures) in let v = flattened_view c.flatten.ensures in let a = rw v at (looked_pair (length s.args.terms.now) (term_in s.args.terms.now) (rw c.in-Pair.is at c.unequal_pair.ensures)) in pair_held (length s.args.terms.now) (term_in s.args.terms.now) a (rw c.in-Held.is at c.join.ensures)
 
 same-length-5 : tie.Need-shape_of-parents-in-Clashed invariant-loop decreases-loop
-same-length-5 c = let s = c in c.join.auto.0 ∙ (c.flatten.ensures.long ∙ chased_long (length s.args.terms.now) (term_in s.args.terms.now) c.loop-x.invariant.0)
+same-length-5 c = let s = c in c.join.auto.parents ∙ (c.flatten.ensures.long ∙ chased_long (length s.args.terms.now) (term_in s.args.terms.now) c.loop-x.invariant.0)
 
 same-length-6 : tie.Need-shape_of-offsets-in-Clashed invariant-loop decreases-loop
-same-length-6 c = c.join.auto.1.0 ∙ (c.flatten.ensures.offsets_long ∙ c.loop-x.invariant.1)
+same-length-6 c = c.join.auto.offsets ∙ (c.flatten.ensures.offsets_long ∙ c.loop-x.invariant.1)
 
 returns-3 : tie.Need-returns-in-Clashed invariant-loop decreases-loop
 returns-3 c = let s = c in let k = unchanged_chased (length s.args.terms.now) (term_in s.args.terms.now) (chased_labels (length s.args.terms.now) (term_in s.args.terms.now) c.loop-x.invariant.0) (chased_chain (length s.args.terms.now) (term_in s.args.terms.now) c.loop-x.invariant.0) (chased_long (length s.args.terms.now) (term_in s.args.terms.now) c.loop-x.invariant.0) (flattened_unchanged c.flatten.ensures) in let v = flattened_view c.flatten.ensures in let a = rw v at (looked_pair (length s.args.terms.now) (term_in s.args.terms.now) (rw c.in-Pair.is at c.unequal_pair.ensures)) in pair_clashed (length s.args.terms.now) (term_in s.args.terms.now) k a (rw c.in-Clashed.is at c.join.ensures)

@@ -22,11 +22,11 @@ mul-k-end c = omega (arith, pairs_few _ c.requires.few)
 loop-holds : tie.Need-loop-k-init invariant-loop decreases-loop
 loop-holds c = (omega arith, below_none _)
 
-div-x : tie.Need-nonzero-div-x invariant-loop decreases-loop
-div-x c = let p = pair_below _ c.loop-test.true in omega arith
+div-x : tie.Need-nonzero_div-x invariant-loop decreases-loop
+div-x c = let p = pair_below _ c.loop-k-test.true in omega arith
 
-rem-y : tie.Need-nonzero-rem-y invariant-loop decreases-loop
-rem-y c = let p = pair_below _ c.loop-test.true in omega arith
+rem-y : tie.Need-nonzero_rem-y invariant-loop decreases-loop
+rem-y c = let p = pair_below _ c.loop-k-test.true in omega arith
 
 is-unequal-requires : tie.Need-is_unequal-requires invariant-loop decreases-loop
 is-unequal-requires c κs = let p = pair_below _ c.loop-k-test.true in (c.requires, (p.first, p.second))

@@ -18,14 +18,14 @@ tables s =
 returns : tie.Need-returns-in_default
 unfolding records_fault
 returns c =
-    let T = tables c.before.before.before in
+    let T = tables c.before.before in
     refused_first (in_terms T) (or_else (in_propositions T) (in_questions T)) c.check_terms-found.ensures c.in_default.is
 
 returns-2 : tie.Need-returns-in_default-found
 unfolding records_fault
 returns-2 c =
     let t = c in
-    let T = tables t.before.before.before in
+    let T = tables t.before.before.before.before in
     accepted_first (in_terms T) (or_else (in_propositions T) (in_questions T)) t.check_terms-found.ensures t.in-Accepted.is
     (refused_first (in_propositions T) (in_questions T) c.check_propositions-found.ensures c.in_default-found.is)
 
@@ -34,7 +34,7 @@ unfolding records_fault
 returns-3 c =
     let p = c in
     let t = p in
-    let T = tables t.before.before.before in
+    let T = tables t.before.before.before.before.before in
     accepted_first (in_terms T) (or_else (in_propositions T) (in_questions T)) t.check_terms-found.ensures t.in-Accepted.is
     (accepted_first (in_propositions T) (in_questions T) p.check_propositions-found.ensures p.in-Accepted-found.is c.check_questions.ensures)
 

@@ -12,15 +12,15 @@ use Rattle.refusals.proofs.check_tables.Tie as tie
 abbrev tables : tie.Start → Tables
 tables s = tables_of s.args.n s.args.terms.now s.args.m s.args.propositions.now s.args.q s.args.questions.now
 
-sizes : (c : tie.In-Accepted) → Sized most (tables c.before.before.before)
+sizes : (c : tie.In-Accepted) → Sized most (tables c.before.before)
 sizes c =
-    let T = tables c.before.before.before in
+    let T = tables c.before.before in
     sized most T (accepts (sizes_fault most T) c.check_sizes-sizes.ensures c.in-Accepted.is)
 
 returns : tie.Need-returns-in_default
 unfolding tables_fault
 returns c =
-    let T = tables c.before.before.before in
+    let T = tables c.before.before in
     refused_first (sizes_fault most T) (records_fault T) c.check_sizes-sizes.ensures c.in_default.is
 
 returns-2 : tie.Need-returns

@@ -20,7 +20,7 @@ put-cells-requires-2 c κs = let s = c in
 
 returns : tie.Need-returns
 returns c = let s = c in
-    all_written s.args.out.now (verdict_frame Contradiction) (blame_frames s.args.marks.now) (answer_frames s.args.answers.now) s.requires _ _ c.put_contradiction-blame.ensures _ _ c.put_cells.ensures _ _ c.put_cells.ensures
+    all_written s.args.out.now (verdict_frame Contradiction) (blame_frames s.args.marks.now) (answer_frames s.args.answers.now) s.requires _ _ c.put_contradiction-blame.ensures _ _ c.put_cells-questions.ensures _ _ c.put_cells.ensures
 
 pub put_contradictory_set_spec : {M : Type 1} → statement M
 put_contradictory_set_spec =

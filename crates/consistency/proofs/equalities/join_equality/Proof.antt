@@ -73,20 +73,20 @@ equated c told =
 joined : tie.Need-returns-in-Joined
 joined c =
     let j = c in
-    let s = start j in
-    advance_joined _ _ s.pre.0.0 s.pre.0.1 s.pre.1.1 (kept j.before.before.before.before.before).0 (kept j.before.before.before.before.before).1 (equated j c.in-Joined.is)
+    let s = start j.before.before.before.before in
+    advance_joined _ _ s.pre.0.0 s.pre.0.1 s.pre.1.1 (kept j.before.before.before.before).0 (kept j.before.before.before.before).1 (equated j.before.before.before.before c.in-Joined.is)
 
 held : tie.Need-returns-in-Held
 held c =
     let j = c in
-    let s = start j in
-    advance_held _ _ s.pre.0.0 s.pre.0.1 s.pre.1.1 (kept j.before.before.before.before.before).0 (kept j.before.before.before.before.before).1 (equated j c.in-Held.is)
+    let s = start j.before.before.before.before in
+    advance_held _ _ s.pre.0.0 s.pre.0.1 s.pre.1.1 (kept j.before.before.before.before).0 (kept j.before.before.before.before).1 (equated j.before.before.before.before c.in-Held.is)
 
 clashed : tie.Need-returns-in-Clashed
 clashed c =
     let j = c in
-    let s = start j in
-    advance_clashed _ _ s.pre.0.0 s.pre.0.1 s.pre.1.1 (kept j.before.before.before.before.before).0 (kept j.before.before.before.before.before).1 (equated j c.in-Clashed.is)
+    let s = start j.before.before.before.before in
+    advance_clashed _ _ s.pre.0.0 s.pre.0.1 s.pre.1.1 (kept j.before.before.before.before).0 (kept j.before.before.before.before).1 (equated j.before.before.before.before c.in-Clashed.is)
 
 pub join_equality_spec : {M : Type 1} → statement M
 join_equality_spec =

@@ -25,26 +25,26 @@ abbrev start : tie.Else-marks-k-eq0 → tie.Start
 start r = r.before.before.before.before
 
 -- both sides are terms
-sides : (c : tie.After-index-right) → let n = length (start c.before.before.before).args.representatives.now in (c.before.index.result < n) × (c.index2.result < n)
+sides : (c : tie.After-index-right) → let n = length (start c.before.before.before).args.representatives.now in (c.index-left.result < n) × (c.index-right.result < n)
 sides c =
     let r = c in
-    let s = start r.before in
+    let s = start r.before.before.before in
     let below = sides_below _ _ _ s.pre.0.0 s.args.p.0 s.pre.1.1 in
     let e = r.proposition_at-r.ensures in
     (rw (c.index-left.ensures, e) below.0, rw (c.index-right.ensures, e) below.1)
 
 -- and there are few
-left-fits : (c : tie.After-index-right) → Fits w64 (c.before.index.result * 4)
+left-fits : (c : tie.After-index-right) → Fits w64 (c.index-left.result * 4)
 left-fits c = omega (arith, (sides c).0, (start c.before.before.before).requires.0.1.few)
 
-right-fits : (c : tie.After-index-right) → Fits w64 (c.index2.result * 4)
+right-fits : (c : tie.After-index-right) → Fits w64 (c.index-right.result * 4)
 right-fits c = omega (arith, (sides c).1, (start c.before.before.before).requires.0.1.few)
 
 holds-requires : tie.Need-holds-requires
 holds-requires c κs =
     let i = c in
     let r = i in
-    let s = start r.before in
+    let s = start r.before.before.before.before.before.before in
     let near = wider {C = far} (omega arith) (proposition_offset_within _ _ _ s.pre.0.0 s.args.p.0 s.pre.1.1) in
     (s.pre.0.1, ((sides i.before.before.before).0, ((sides i.before.before.before).1, rw (to_z-of_z w64 _ (sfits_of c.struct_told-1.given.1.1.0.1), r.proposition_at-r.ensures) near)))
 
@@ -53,7 +53,7 @@ returns-2 c =
     let t = c in
     let i = t in
     let r = i in
-    let s = start r.before in
+    let s = start r.before.before.before.before.before.before.before in
     let e = r.proposition_at-r.ensures in
     judged_disequality (marked s.args.marks.now s.args.p.0 r.if-marks-k-eq0.false) (rw e at t.if-r-eq-DISEQUALITY.true) c.holds.result
     (rw (to_z-of_z w64 _ (sfits_of c.struct_told-1.given.1.1.0.1), i.index-left.ensures, i.index-right.ensures, e) at c.holds.ensures)
@@ -63,7 +63,7 @@ returns-3 c =
     let t = c in
     let i = t in
     let r = i in
-    let s = start r.before in
+    let s = start r.before.before.before.before.before.before.before.before.before in
     let e = r.proposition_at-r.ensures in
     judged_blocks (marked s.args.marks.now s.args.p.0 r.if-marks-k-eq0.false) (rw e at t.if-r-eq-BLOCK_DISEQUALITY.true) _ (rw (i.index-left.ensures, i.index-right.ensures, e) refl)
 

@@ -21,7 +21,7 @@ loop-again c =
     seen_other _ _ _ r.loop-t-test.true (rw r.term_at-r.ensures at c.if-r-ne-VARIABLE.true) l.loop-t.invariant
 
 -- a class is a term, and there are few
-few : (c : tie.After-wide-class invariant-loop decreases-loop) → c.wide.result < 512
+few : (c : tie.After-wide-class invariant-loop decreases-loop) → c.wide-class.result < 512
 few c =
     let l = c in
     let s = l in

@@ -12,5 +12,5 @@ choose_levels_spec =
     (λ c κs. search rules)
     (λ c κs. (c.list_large-count.ensures, c.requires))
     (λ c κs. c.list_large-count.ensures)
-    (λ c. c.set_levels.auto.1.1.1.0 ∙ c.clear.auto.0)
+    (λ c. c.set_levels.auto.levels ∙ c.clear.auto.levels)
     (λ c. search rules))

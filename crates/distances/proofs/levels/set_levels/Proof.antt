@@ -25,6 +25,6 @@ set_levels_spec =
     (λ c κs. search rules)
     (λ c. search rules)
     (λ c. search rules)
-    (λ c. (omega (arith, c.loop-k-test.true), c.set_level.auto.1.1.0 ∙ c.loop-k.invariant.1))
+    (λ c. (omega (arith, c.loop-k-test.true), c.set_level.auto.levels ∙ c.loop-k.invariant.1))
     (λ c. search rules)
     (λ c. search rules))

@@ -10,7 +10,7 @@ is_paired_spec =
     tie.close
     (tie.spec
     (λ c κs. search rules)
-    (λ c. λ e p. false_true (sym c.is_before.ensures ∙ not-true c.is_before.result c.if-not-is_before.true) p.ranked)
+    (λ c. λ e p. false_true (sym c.is_before.ensures ∙ c.if-not-is_before.true) p.ranked)
     (λ c κs. search rules)
     (λ c κs. search rules)
     (λ c κs. search rules)

@@ -5,13 +5,13 @@ use borrow.Author.Rules.{rules}
 use Rattle.frames.proofs.store.store.Statement.{statement}
 use Rattle.frames.proofs.store.store.Tie as tie
 
-term-below : (c : tie.After-term_row) → c.before.before.before.before.args.counts.terms < 512
+term-below : (c : tie.After-term_row) → c.args.counts.terms < 512
 term-below c = rw c.in-Term.is at c.requires.0
 
-proposition-below : (c : tie.After-proposition_row) → c.before.before.before.before.args.counts.propositions < 512
+proposition-below : (c : tie.After-proposition_row) → c.args.counts.propositions < 512
 proposition-below c = rw c.in-Proposition.is at c.requires.0
 
-question-below : (c : tie.After-question_row) → c.before.before.before.before.args.counts.questions < 512
+question-below : (c : tie.After-question_row) → c.args.counts.questions < 512
 question-below c = rw c.in-Question.is at c.requires.0
 
 mul-t15 : tie.Need-offset_bounds-terms-at

@@ -19,7 +19,7 @@ decreases-loop t count terms k₀ k = count - k
 
 -- the test of record k
 tested : (c : tie.After-same_atom invariant-loop decreases-loop)
-    → c.same-atom.result ≡ is_same_atom c.before.before.before.before.args.t (term_in c.before.before.before.before.args.terms.now c.before.before.before.loop.k)
+    → c.same_atom.result ≡ is_same_atom c.args.t (term_in c.args.terms.now c.loop-k.k)
 tested c = rw (← c.term_at.ensures) c.same_atom.ensures
 
 loop-holds : tie.Need-loop-k-init invariant-loop decreases-loop

@@ -34,7 +34,7 @@ shared-slice-read-if5 : tie.Need-bounds-heights-i
 shared-slice-read-if5 c = omega (arith, c.if-n-i.false, c.requires.0.heights_long)
 
 add-if5 : tie.Need-overflow_add-heights
-add-if5 c = let p = c.requires in omega (arith, p.0.low c.linked.result (omega (arith, c.if-n-i.false)), p.1.1.1.1.1.0)
+add-if5 c = let p = c.requires in omega (arith, p.0.low c.linked-i.result (omega (arith, c.if-n-i.false)), p.1.1.1.1.1.0)
 
 shared-slice-read-if5-2 : tie.Need-bounds-heights-j
 shared-slice-read-if5-2 c = omega (arith, c.if-n-j.false, c.requires.0.heights_long)
@@ -44,7 +44,7 @@ add-if5-2 c = let p = c.requires in omega (arith, p.0.low c.linked-j.result (ome
 
 returns-5 : tie.Need-returns-then-heights-i
 returns-5 c = let s = c.args in let p = c.requires in
-    let ei = c.linked.ensures in let ej = c.linked-j.ensures in let ea = c.index.ensures in let eb = c.index-2.ensures in
+    let ei = c.linked-i.ensures in let ej = c.linked-j.ensures in let ea = c.index.ensures in let eb = c.index-2.ensures in
     single_far p.1.0 s.heights.now s.a s.p s.b s.q (omega (arith, p.1.1.0, p.0.few)) (omega (arith, p.1.1.1.0, p.0.few))
     (rw (← ea, ← ei) (omega (arith, c.if-n-i.false))) (rw (← eb, ← ej) (omega (arith, c.if-n-j.false)))
     (rw (← ea, ← ei) (omega (arith, c.linked.ensures, c.if-linked-n.false))) (rw (← eb, ← ej) (omega (arith, c.linked-2.ensures, c.if-linked-n-2.false))) _
@@ -55,7 +55,7 @@ mark-both-requires c κs = let p = c.requires in (record { few = p.0.few; left =
 
 returns-6 : tie.Need-returns
 returns-6 c = let s = c.args in let p = c.requires in
-    let ei = c.linked.ensures in let ej = c.linked-j.ensures in let ea = c.index.ensures in let eb = c.index-2.ensures in
+    let ei = c.linked-i.ensures in let ej = c.linked-j.ensures in let ea = c.index.ensures in let eb = c.index-2.ensures in
     single_both p.1.0 s.heights.now s.a s.p s.b s.q (omega (arith, p.1.1.0, p.0.few)) (omega (arith, p.1.1.1.0, p.0.few))
     (rw (← ea, ← ei) (omega (arith, c.if-n-i.false))) (rw (← eb, ← ej) (omega (arith, c.if-n-j.false)))
     (rw (← ea, ← ei) (omega (arith, c.linked.ensures, c.if-linked-n.false))) (rw (← eb, ← ej) (omega (arith, c.linked-2.ensures, c.if-linked-n-2.false)))

@@ -23,10 +23,10 @@ decreases-loop text terms₀ propositions₀ questions₀ counts₀ start₀ pla
 
 -- the rows as they were lent, and after a call of `take_line`
 abbrev lent : tie.After-take_line invariant-loop decreases-loop → Rows
-lent c = let a = c.before.before.before.before.before.before.before.before.before.args in rows a.terms.now a.propositions.now a.questions.now
+lent c = let a = c.args in rows a.terms.now a.propositions.now a.questions.now
 
 abbrev now : tie.After-take_line invariant-loop decreases-loop → Rows
-now c = let l = c.take-line.new.1.1.1 in rows l.0 l.1.0 l.1.1.0
+now c = let l = c.take_line.new.1.1.1 in rows l.0 l.1.0 l.1.1.0
 
 sized : (c : tie.After-take_line invariant-loop decreases-loop) → SameSizes (lent c) (now c)
 sized c =
@@ -67,20 +67,20 @@ sub-size c =
     omega (arith, c.line_end-end.ensures, end_after c.args.text.now l.start, c.loop-start-test.true)
 
 same_length : tie.Need-shape_of-terms-in-Refused invariant-loop decreases-loop
-same_length c = (sized c.before.before.before.before.before.before).terms
+same_length c = (sized c.before.before.before.before).terms
 
 same-length-2 : tie.Need-shape_of-propositions-in-Refused invariant-loop decreases-loop
-same-length-2 c = (sized c.before.before.before.before.before.before).propositions
+same-length-2 c = (sized c.before.before.before.before).propositions
 
 same-length-3 : tie.Need-shape_of-questions-in-Refused invariant-loop decreases-loop
-same-length-3 c = (sized c.before.before.before.before.before.before).questions
+same-length-3 c = (sized c.before.before.before.before).questions
 
 returns : tie.Need-returns-in-Refused invariant-loop decreases-loop
 returns c =
     let k = c in
     let l = k.loop-start in
     rw k.line_end-end.ensures
-    (progress_refused _ _ _ _ l.start l.place l.invariant.0 k.loop-start-test.true _ _ (rw c.in-Refused.is at (stepped k.before.before.before.before.before.before)))
+    (progress_refused _ _ _ _ l.start l.place l.invariant.0 k.loop-start-test.true _ _ (rw c.in-Refused.is at (stepped k.before.before.before.before)))
 
 add_start : tie.Need-overflow_add-start invariant-loop decreases-loop
 add_start c =
@@ -103,8 +103,8 @@ loop-again c =
     let k = c in
     let l = k.loop-start in (
       rw k.line_end-end.ensures
-          (progress_more _ _ _ _ l.start l.place l.invariant.0 k.loop-start-test.true _ _ (rw c.in-Accepted.is at (stepped k.before.before.before.before.before.before))),
-      sized k.before.before.before.before.before.before,
+          (progress_more _ _ _ _ l.start l.place l.invariant.0 k.loop-start-test.true _ _ (rw c.in-Accepted.is at (stepped k.before.before.before.before))),
+      sized k.before.before.before.before,
     )
 
 same-length-4 : tie.Need-shape_of-terms invariant-loop decreases-loop

@@ -22,23 +22,23 @@ decreases-loop n questions i₀ i-end i = length questions - i
 abbrev faults : tie.Start invariant-loop decreases-loop → ℕ → Option Refusal
 faults s = λ k. question_fault s.args.n (asked (question_in s.args.questions.now k))
 
-found : (c : tie.After-judge_question-found invariant-loop decreases-loop) → let l = c.before.before.before in c.judge-question.result ≡ judged l.loop.i (faults l.before l.loop.i)
+found : (c : tie.After-judge_question-found invariant-loop decreases-loop) → let l = c in c.judge_question-found.result ≡ judged l.loop-i.i (faults l.before.before.before.before l.loop-i.i)
 found c = rw c.question_at.ensures at c.judge_question-found.ensures
 
 returns : tie.Need-returns-in_default invariant-loop decreases-loop
 unfolding questions_fault
 returns c =
     let l = c in
-    stops (faults l.before) (omega arith) l.loop-i.invariant (found c.before.before) c.in_default.is
+    stops (faults l.before.before.before.before.before) (omega arith) l.loop-i.invariant (found c.before) c.in_default.is
 
 loop-again : tie.Need-loop-i-preserved invariant-loop decreases-loop
 loop-again c =
     let l = c in
-    goes_on (faults l.before) (omega arith) l.loop-i.invariant (found c.before.before) c.in-Accepted.is
+    goes_on (faults l.before.before.before.before.before) (omega arith) l.loop-i.invariant (found c.before) c.in-Accepted.is
 
 returns-2 : tie.Need-returns invariant-loop decreases-loop
 unfolding questions_fault
-returns-2 c = let l = c in ends (faults l.before) (omega arith) l.loop-i.invariant
+returns-2 c = let l = c in ends (faults l.before.before) (omega arith) l.loop-i.invariant
 
 pub check_questions_spec : {M : Type 1} → statement M
 check_questions_spec =

@@ -13,7 +13,7 @@ use Rattle.refusals.proofs.questions.judge_question.Statement.{statement}
 use Rattle.refusals.proofs.questions.judge_question.Tie as tie
 
 -- what `in_range` finds
-found : (c : tie.After-in_range) → is_some (question_of (asked c.before.before.args.r)) ≡ c.in_range_lem.result
+found : (c : tie.After-in_range) → is_some (question_of (asked c.args.r)) ≡ c.in_range.result
 found c =
     let r = c.args.r in
     is_question (asked r) ∙ sym (rw (to_z-of_z w64 r.offset (sfits_of c.struct_told-1.given.1.0.1)) at c.in_range.ensures)

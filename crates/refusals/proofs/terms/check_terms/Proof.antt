@@ -36,13 +36,13 @@ parts : (s : tie.Start) → acceptance (first_fault (λ k. or_else (own s k) (re
 parts s = ap acceptance (term_faults (term_in s.args.terms.now) (count s))
 
 -- where the first search does not decide, its fault comes after that place
-later : (c : tie.Joined-found) → let s = c.before.before.before in Later (own s) (again s) AtomListedTwice (count s) (place s)
+later : (c : tie.Joined-found) → let s = c in Later (own s.before.before.before) (again s.before.before.before) AtomListedTwice (count s.before.before.before) (place s.before.before.before)
 later c =
     let s = c in
     let e = c.first_own_fault-found.ensures in
     ⊎_elim
-    (λ w. later_fault (own s) (again s) AtomListedTwice (count s) e w.1.given.1 (rw c.first_repeat-repeat.ensures at w.4.left))
-    (λ w. later_clear (own s) (again s) AtomListedTwice (count s) e w.1.given.1)
+    (λ w. later_fault (own s.before.before.before) (again s.before.before.before) AtomListedTwice (count s.before.before.before) e w.1.given.1 (rw c.first_repeat-repeat.ensures at w.4.left))
+    (λ w. later_clear (own s.before.before.before) (again s.before.before.before) AtomListedTwice (count s.before.before.before) e w.1.given.1)
     c.match-found.branch
 
 returns : tie.Need-returns-then-fault-repeat
@@ -52,8 +52,8 @@ returns c =
     let s = m in
     let e = f.in-Refused.is in
     sym e
-    ∙ takes_first (own s) (again s) AtomListedTwice (count s) m.first_own_fault-found.ensures e (rw m.first_repeat-repeat.ensures at c.if-fault-repeat.true)
-    ∙ parts s
+    ∙ takes_first (own s.before.before.before.before.before) (again s.before.before.before.before.before) AtomListedTwice (count s.before.before.before.before.before) m.first_own_fault-found.ensures e (rw m.first_repeat-repeat.ensures at c.if-fault-repeat.true)
+    ∙ parts s.before.before.before.before.before
 
 returns-2 : tie.Need-returns-then-repeat-terms
 returns-2 c =
@@ -61,14 +61,14 @@ returns-2 c =
     let s = m in
     let e = m.first_repeat-repeat.ensures in
     (rw e at c.refuse.ensures)
-    ∙ takes_second (own s) (again s) AtomListedTwice (count s) (later c.before.before) (rw e at c.if-repeat-terms.true)
-    ∙ parts s
+    ∙ takes_second (own s.before.before.before.before.before) (again s.before.before.before.before.before) AtomListedTwice (count s.before.before.before.before.before) (later c.before.before) (rw e at c.if-repeat-terms.true)
+    ∙ parts s.before.before.before.before.before
 
 returns-3 : tie.Need-returns
 returns-3 c =
     let m = c in
     let s = m in
-    takes_none (own s) (again s) AtomListedTwice (count s) (later c.before) (rw m.first_repeat-repeat.ensures at c.if-repeat-terms.false) ∙ parts s
+    takes_none (own s.before.before.before.before) (again s.before.before.before.before) AtomListedTwice (count s.before.before.before.before) (later c.before) (rw m.first_repeat-repeat.ensures at c.if-repeat-terms.false) ∙ parts s.before.before.before.before
 
 pub check_terms_spec : {M : Type 1} → statement M
 check_terms_spec =

@@ -21,21 +21,21 @@ decreases-loop terms i₀ i-end i = length terms - i
 abbrev faults : tie.Start invariant-loop decreases-loop → ℕ → Option Refusal
 faults s = own_fault_at (term_in s.args.terms.now)
 
-found : (c : tie.After-judge_term-found invariant-loop decreases-loop) → let l = c.before.before.before in c.judge-term.result ≡ judged l.loop.i (faults l.before l.loop.i)
+found : (c : tie.After-judge_term-found invariant-loop decreases-loop) → let l = c in c.judge_term-found.result ≡ judged l.loop-i.i (faults l.before.before.before.before l.loop-i.i)
 found c = rw c.term_at.ensures at c.judge_term-found.ensures
 
 returns : tie.Need-returns-in_default invariant-loop decreases-loop
 returns c =
     let l = c in
-    stops (faults l.before) (omega arith) l.loop-i.invariant (found c.before.before) c.in_default.is
+    stops (faults l.before.before.before.before.before) (omega arith) l.loop-i.invariant (found c.before) c.in_default.is
 
 loop-again : tie.Need-loop-i-preserved invariant-loop decreases-loop
 loop-again c =
     let l = c in
-    goes_on (faults l.before) (omega arith) l.loop-i.invariant (found c.before.before) c.in-Accepted.is
+    goes_on (faults l.before.before.before.before.before) (omega arith) l.loop-i.invariant (found c.before) c.in-Accepted.is
 
 returns-2 : tie.Need-returns invariant-loop decreases-loop
-returns-2 c = let l = c in ends (faults l.before) (omega arith) l.loop-i.invariant
+returns-2 c = let l = c in ends (faults l.before.before) (omega arith) l.loop-i.invariant
 
 pub first_own_fault_spec : {M : Type 1} → statement M
 first_own_fault_spec =

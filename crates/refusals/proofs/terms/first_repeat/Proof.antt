@@ -34,17 +34,17 @@ records s = term_in s.args.terms.now
 -- what the comparison of records i and j finds
 found :
     (c : tie.After-same_atom invariant-loop decreases-loop invariant-scan decreases-scan) →
-    let l = c.before.before.before in
-    let t = l.before.before.before.before in
-    let s = t.before.before in
-    is_same_atom (records s.before s.scan.i) (records s.before l.loop.j) ≡ c.same-atom.result
-found c = sym (rw (c.before.before.before.before.before.before.before.term-at.ensures, c.before.term-at2.ensures) at c.same-atom.ensures)
+    let l = c in
+    let t = l in
+    let s = t in
+    is_same_atom (records s.before.before.before.before.before.before.before.before.before.before s.scan.i) (records s.before.before.before.before.before.before.before.before.before.before l.loop-j.j) ≡ c.same_atom.result
+found c = sym (rw (c.term_at-term.ensures, c.term_at.ensures) at c.same_atom.ensures)
 
 scan-again : tie.Need-scan-preserved-then-note_atom invariant-loop decreases-loop invariant-scan decreases-scan
 scan-again c =
     let t = c in
     let s = t in
-    let rec = records s.before in
+    let rec = records s.before.before.before.before.before.before in
     let N = rw t.term_at-term.ensures at c.note_atom.ensures in
     let clear = no_repeat rec s.scan.i (unlisted rec s.scan.invariant.1.1 N c.if-note_atom.true) in
     (s.scan.invariant.0, (passes (repeat_fault_at rec) (omega arith) s.scan.invariant.1.0 clear, listed_more rec s.scan.invariant.1.1 N))
@@ -59,7 +59,7 @@ scan-again-2 c =
     let l = c.loop-j in
     let t = c in
     let s = t in
-    let rec = records s.before in
+    let rec = records s.before.before.before.before.before.before.before.before in
     let e : l.j ≡ s.scan.i = omega arith in
     let N = rw t.term_at-term.ensures at c.note_atom.ensures in
     let clear = no_repeat rec s.scan.i (rw e at l.invariant.1.1) in
@@ -70,7 +70,7 @@ returns c =
     let l = c.scan in
     let s = c in
     let n = length s.args.terms.now in
-    l.invariant.0 ∙ sym (ap (place_or n) (first_clear (repeat_fault_at (records s)) n l.i (omega arith) l.invariant.1.0))
+    l.invariant.0 ∙ sym (ap (place_or n) (first_clear (repeat_fault_at (records s.before.before)) n l.i (omega arith) l.invariant.1.0))
 
 returns-2 : tie.Need-returns-then-same_atom invariant-loop decreases-loop invariant-scan decreases-scan
 returns-2 c =
@@ -78,8 +78,8 @@ returns-2 c =
     let o = c in
     let s = o in
     let n = length s.args.terms.now in
-    let again = repeats (records s) o.scan.i l.j (omega arith) (found c.before ∙ c.if-same_atom.true) in
-    sym (ap (place_or n) (first_found (repeat_fault_at (records s)) n o.scan.i (omega arith) o.scan.invariant.1.0 again))
+    let again = repeats (records s.before.before.before.before.before.before.before.before.before.before.before) o.scan.i l.j (omega arith) (found c.before ∙ c.if-same_atom.true) in
+    sym (ap (place_or n) (first_found (repeat_fault_at (records s.before.before.before.before.before.before.before.before.before.before.before)) n o.scan.i (omega arith) o.scan.invariant.1.0 again))
 
 pub first_repeat_spec : {M : Type 1} → statement M
 first_repeat_spec =
