@@ -69,7 +69,11 @@ class Function:
             for _ in range(n):
                 place = self.parent.get(place) or place
             return [], place
+        if rest[0] == "pre":
+            rest = ["requires", *rest[1:]]
         if rest[0] in ("args", "ranges", "requires", "lifetimes", "well_formed"):
+            if rest[0] in ("args", "ranges") and len(rest) > 1:
+                rest = [rest[0], rest[1].replace("-", "_"), *rest[2:]]
             return rest, None
         found = [p for k in (0, 1) for p in self.outward(place) if self.step.get(p) and self.step[p][k] and plain(rest[0]) == plain(self.step[p][k])]
         if found:
@@ -87,11 +91,11 @@ class Function:
 
     def kept(self, place, fields):
         """`.auto.1.1.0` of a call or a loop is what it says of its third variable, which has its name now."""
-        m = re.match(r"auto((?:\.1)*)\.0$", ".".join(fields))
+        m = re.match(r"(auto|new)((?:\.1)*)\.0(?=\.|$)", ".".join(fields))
         names = self.params.get(self.callee.get(place) or "") or dict(self.variables).get(self.step[place][0])
-        if not m or not names or m.group(1).count("1") >= len(names):
+        if not m or not names or m.group(2).count("1") >= len(names):
             return fields
-        return ["auto", names[m.group(1).count("1")]]
+        return [m.group(1), names[m.group(2).count("1")], *fields[m.group(2).count("1") + 2:]]
 
     def before(self, place, to):
         """How to name a place from one after it."""
@@ -200,7 +204,10 @@ def turn(text, fn, name):
     text = "\n".join(out)
     dashed = name.replace("_", "-")
     text = re.sub(r"(?<![\w\-'.])" + re.escape(dashed) + r"-spec(?![\w\-'])", name + "_spec", text)
-    text = lambdas(text, fn)
+    text = lambdas(text, fn, signatures)
+    text = re.sub(r"\.pre(?=\.[01])", ".requires", text)
+    text = re.sub(r"\.in_default\.rest\b", ".in_default.in_default-own.rest", text)
+    text = re.sub(r"(?<=\.)[a-z]+(?:-[a-z]+)+(?=\.now\b)", lambda m: m.group(0).replace("-", "_"), text)
     # a test of a negated call says what the call gave
     return re.sub(r"\bnot-(?:true|false) (?:_|[\w'.₀\-]+|\([^()]*\)) ([\w'₀]+\.if-not-[\w\-']+\.(?:true|false))", r"\1", text)
 
@@ -230,7 +237,7 @@ def split_args(text):
     return found
 
 
-def lambdas(text, fn):
+def lambdas(text, fn, signatures):
     """Renames the paths in answers that stand in the closing call, `(λ c. ..)`, by their position."""
     at = text.find("tie.spec")
     if at < 0:
@@ -252,7 +259,21 @@ def lambdas(text, fn):
                 if al.group(2) in env:
                     env[al.group(1)] = env[al.group(2)]
             arg = re.sub(r"(\blet [\w'₀]+ = [^\W\d][\w'₀]*)((?:\.before)*)(?= in\b)", lambda m: m.group(1), arg)
-            arg = PATH.sub(lambda p: ".".join([p.group(1), *fn.walk(env[p.group(1)], p.group(2)[1:].split("."))[0]]) if p.group(1) in env else p.group(0), arg)
+            def way(p):
+                helper = re.search(r"(" + WORD + r") $", p.string[: p.start()])
+                wants = (signatures.get(helper.group(1)) or [None])[0] if helper else None
+                return (fn.before(env[p.group(1)], wants) if wants else None)
+
+            def one(p):
+                if p.group(1) not in env:
+                    return p.group(0)
+                new, end = fn.walk(env[p.group(1)], p.group(2)[1:].split("."))
+                if end is not None:
+                    return p.group(1) + way(p) if way(p) is not None else p.group(0)
+                return ".".join([p.group(1), *new])
+
+            arg = PATH.sub(one, arg)
+            arg = re.sub(r"(?<= )([\w'₀]+)(?![\w.'₀-])", lambda p: p.group(1) + (way(p) or "") if p.group(1) in env else p.group(0), arg)
         made += arg
         pos = b
     return head + made + tail[pos:]

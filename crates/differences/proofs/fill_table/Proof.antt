@@ -26,8 +26,8 @@ settle-requires c κs = let s = c in
           (
             G.apart_room,
             (
-              room_based s.args.n s.args.m s.args.points.now s.args.heights.now s.args.left-classes.now s.args.left-heights.now s.args.right-classes.now s.args.right-heights.now s.args.apart.now s.args.pairs.now c.mark_base.ensures p.0.1,
-              base_uniform s.args.n s.args.m s.args.points.now s.args.heights.now s.args.left-classes.now s.args.left-heights.now s.args.right-classes.now s.args.right-heights.now s.args.apart.now c.mark_base.ensures,
+              room_based s.args.n s.args.m s.args.points.now s.args.heights.now s.args.left_classes.now s.args.left_heights.now s.args.right_classes.now s.args.right_heights.now s.args.apart.now s.args.pairs.now c.mark_base.ensures p.0.1,
+              base_uniform s.args.n s.args.m s.args.points.now s.args.heights.now s.args.left_classes.now s.args.left_heights.now s.args.right_classes.now s.args.right_heights.now s.args.apart.now c.mark_base.ensures,
             ),
           ),
         ),
@@ -39,15 +39,15 @@ expand-requires c κs = let s = c in
     let p = s.requires in (
       (p.0.0.terms, p.1.0.homes_are),
       (
-        class_set s.args.n s.args.m s.args.classes.now s.args.heights.now s.args.homes.now s.args.points.now s.args.reads.now s.args.read-heights.now s.args.leads.now s.args.left-classes.now s.args.left-heights.now s.args.right-classes.now s.args.right-heights.now s.args.apart.now
+        class_set s.args.n s.args.m s.args.classes.now s.args.heights.now s.args.homes.now s.args.points.now s.args.reads.now s.args.read_heights.now s.args.leads.now s.args.left_classes.now s.args.left_heights.now s.args.right_classes.now s.args.right_heights.now s.args.apart.now
             p.0.0.terms p.0.0.sides p.1.0.homes_are p.1.0.points_are p.1.0.leads_are c.mark_base.ensures c.settle.ensures,
         (
-          home_columns s.args.n s.args.m s.args.classes.now s.args.heights.now s.args.homes.now s.args.points.now s.args.reads.now s.args.read-heights.now s.args.leads.now s.args.left-classes.now s.args.left-heights.now s.args.right-classes.now s.args.right-heights.now s.args.apart.now
+          home_columns s.args.n s.args.m s.args.classes.now s.args.heights.now s.args.homes.now s.args.points.now s.args.reads.now s.args.read_heights.now s.args.leads.now s.args.left_classes.now s.args.left_heights.now s.args.right_classes.now s.args.right_heights.now s.args.apart.now
               p.0.0.terms p.0.0.sides p.1.0.homes_are p.1.0.points_are p.1.0.leads_are c.mark_base.ensures c.settle.ensures,
           omega (
             arith,
             c.settle.ensures.grows.long,
-            room_based s.args.n s.args.m s.args.points.now s.args.heights.now s.args.left-classes.now s.args.left-heights.now s.args.right-classes.now s.args.right-heights.now s.args.apart.now s.args.pairs.now c.mark_base.ensures p.0.1,
+            room_based s.args.n s.args.m s.args.points.now s.args.heights.now s.args.left_classes.now s.args.left_heights.now s.args.right_classes.now s.args.right_heights.now s.args.apart.now s.args.pairs.now c.mark_base.ensures p.0.1,
           ),
         ),
       ),
@@ -56,7 +56,7 @@ expand-requires c κs = let s = c in
 returns : tie.Need-returns
 returns c = let s = c.args in
     let p = c.requires in
-    table_told s.n s.m s.classes.now s.heights.now s.homes.now s.points.now s.reads.now s.read-heights.now s.leads.now s.left-classes.now s.left-heights.now s.right-classes.now s.right-heights.now s.apart.now
+    table_told s.n s.m s.classes.now s.heights.now s.homes.now s.points.now s.reads.now s.read_heights.now s.leads.now s.left_classes.now s.left_heights.now s.right_classes.now s.right_heights.now s.apart.now
     p.0.0.terms p.0.0.sides p.1.0.homes_are p.1.0.points_are p.1.0.leads_are c.mark_base.ensures c.settle.ensures c.expand.ensures
 
 pub fill_table_spec : {M : Type 1} → statement M

@@ -5,7 +5,7 @@ use Rattle.questions.proofs.any_listed.Statement.{statement}
 use Rattle.questions.proofs.any_listed.Tie as tie
 
 returns : tie.Need-returns
-returns c = let a = c.args in either_way a.left-classes.now a.left-heights.now a.right-classes.now a.right-heights.now c.any_side-there.ensures c.any_side-back.ensures
+returns c = let a = c.args in either_way a.left_classes.now a.left_heights.now a.right_classes.now a.right_heights.now c.any_side-there.ensures c.any_side-back.ensures
 
 pub any_listed_spec : {M : Type 1} → statement M
 any_listed_spec = tie.close (tie.spec (λ c κs. search rules) (λ c κs. search rules) returns)

@@ -32,8 +32,8 @@ loop-holds : tie.Need-loop-k-init invariant-loop decreases-loop
 loop-holds c = let s = c in
     let a = s.args in
     rw (c.linked-k.ensures, c.slot.ensures.0)
-    (seeking_start (OneWay a.left-classes.now a.left-heights.now a.right-classes.now a.right-heights.now a.m a.a a.p a.b a.q)
-    (one_way_slot a.left-classes.now a.left-heights.now a.right-classes.now a.right-heights.now a.a a.p a.b a.q s.requires.0.0 s.requires.0.1.1)
+    (seeking_start (OneWay a.left_classes.now a.left_heights.now a.right_classes.now a.right_heights.now a.m a.a a.p a.b a.q)
+    (one_way_slot a.left_classes.now a.left_heights.now a.right_classes.now a.right_heights.now a.a a.p a.b a.q s.requires.0.0 s.requires.0.1.1)
     (slot_start s.requires.1.0 (slot_of a.a (distance a.p a.q)) (rw c.slot.ensures.0 at c.slot.ensures.1)))
 
 shows-side-requires : tie.Need-shows_side-requires invariant-loop decreases-loop
@@ -53,16 +53,16 @@ loop-again c = let s = c in
     let a = s.args in
     let h = c.loop-k-test.true in
     rw c.linked-k-in-loop-k.ensures
-    (seeking_more (OneWay a.left-classes.now a.left-heights.now a.right-classes.now a.right-heights.now a.m a.a a.p a.b a.q)
-    (one_way_slot a.left-classes.now a.left-heights.now a.right-classes.now a.right-heights.now a.a a.p a.b a.q s.requires.0.0 s.requires.0.1.1)
+    (seeking_more (OneWay a.left_classes.now a.left_heights.now a.right_classes.now a.right_heights.now a.m a.a a.p a.b a.q)
+    (one_way_slot a.left_classes.now a.left_heights.now a.right_classes.now a.right_heights.now a.a a.p a.b a.q s.requires.0.0 s.requires.0.1.1)
     h (slot_link s.requires.1.0 c.loop-k.k h) c.loop-k.invariant
     (λ w. false_true (sym c.shows_side.ensures ∙ c.if-shows_side.false) w.test))
 
 returns-2 : tie.Need-returns invariant-loop decreases-loop
 returns-2 c = let s = c in
     let a = s.args in
-    seeking_done (OneWay a.left-classes.now a.left-heights.now a.right-classes.now a.right-heights.now a.m a.a a.p a.b a.q)
-    (one_way_slot a.left-classes.now a.left-heights.now a.right-classes.now a.right-heights.now a.a a.p a.b a.q s.requires.0.0 s.requires.0.1.1)
+    seeking_done (OneWay a.left_classes.now a.left_heights.now a.right_classes.now a.right_heights.now a.m a.a a.p a.b a.q)
+    (one_way_slot a.left_classes.now a.left_heights.now a.right_classes.now a.right_heights.now a.a a.p a.b a.q s.requires.0.0 s.requires.0.1.1)
     c.loop-k-test.false c.loop-k.invariant
 
 pub any_side_spec : {M : Type 1} → statement M

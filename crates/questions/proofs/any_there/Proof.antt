@@ -24,7 +24,7 @@ linked-requires c κs = rw c.requires.1.0.chains.starts.long c.slot.ensures.1
 loop-holds : tie.Need-loop-j-init invariant-loop decreases-loop
 loop-holds c = let s = c in
     let reads = s.args.reads.now in
-    let heights = s.args.read-heights.now in
+    let heights = s.args.read_heights.now in
     let pairs = s.args.pairs.now in
     rw (c.linked-j.ensures, c.slot.ensures.0)
     (seeking_start (Met s.args.n reads heights pairs s.args.mirrored s.args.class s.args.height s.args.i.0)
@@ -46,7 +46,7 @@ loop-less c = let f = (slot_link c.requires.1.0 c.loop-j.j c.loop-j-test.true).a
 loop-again : tie.Need-loop-j-preserved invariant-loop decreases-loop
 loop-again c = let s = c in
     let reads = s.args.reads.now in
-    let heights = s.args.read-heights.now in
+    let heights = s.args.read_heights.now in
     let pairs = s.args.pairs.now in
     rw c.linked-j-in-loop-j.ensures
     (seeking_more (Met s.args.n reads heights pairs s.args.mirrored s.args.class s.args.height s.args.i.0)
@@ -56,8 +56,8 @@ loop-again c = let s = c in
 
 returns-2 : tie.Need-returns invariant-loop decreases-loop
 returns-2 c = let s = c.args in
-    seeking_done (Met s.n s.reads.now s.read-heights.now s.pairs.now s.mirrored s.class s.height s.i.0)
-    (met_slot s.n s.reads.now s.read-heights.now s.pairs.now s.mirrored s.class s.height s.i.0)
+    seeking_done (Met s.n s.reads.now s.read_heights.now s.pairs.now s.mirrored s.class s.height s.i.0)
+    (met_slot s.n s.reads.now s.read_heights.now s.pairs.now s.mirrored s.class s.height s.i.0)
     c.loop-j-test.false c.loop-j.invariant
 
 pub any_there_spec : {M : Type 1} → statement M

@@ -22,7 +22,7 @@ settle-from-requires : tie.Need-settle_from-requires
 settle-from-requires c κs = let q = c.requires in (q.0, ((record { reading = q.1.0; keys_long = omega (arith, q.1.0.few, c.fill_keys.ensures.long); apart_room = q.1.1.1.0 }, kept_first q.1.1.1.1.0 q.1.1.1.1.1 c.fill_seen.ensures), c.chain.ensures))
 
 returns : tie.Need-returns
-returns c = let s = c.args in done_homes s.points.now s.heights.now s.reads.now s.read-heights.now s.apart.now c.fill_keys.ensures c.settle_from.ensures
+returns c = let s = c.args in done_homes s.points.now s.heights.now s.reads.now s.read_heights.now s.apart.now c.fill_keys.ensures c.settle_from.ensures
 
 pub settle_spec : {M : Type 1} → statement M
 settle_spec =

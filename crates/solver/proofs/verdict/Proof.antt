@@ -71,10 +71,10 @@ verdict_spec =
     (λ c. sym (length-take-le _ _ (sizes c).terms_long))
     (λ c. sym (length-take-le _ _ (sizes c).propositions_long))
     (λ c. search rules)
-    (λ c. (sizes c).few_terms)
-    (λ c. sym (length-take-le _ _ (sizes c).few_terms))
-    (λ c. (sizes c).few_terms)
-    (λ c. sym (length-take-le _ _ (sizes c).few_terms))
+    (λ c. (sizes c.before).few_terms)
+    (λ c. sym (length-take-le _ _ (sizes c.before.before).few_terms))
+    (λ c. (sizes c.before.before).few_terms)
+    (λ c. sym (length-take-le _ _ (sizes c.before.before.before).few_terms))
     is-consistent-requires
     returns-2
     returns-3)

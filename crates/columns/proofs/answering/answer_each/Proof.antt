@@ -17,14 +17,14 @@ decreases-loop n m questions reps offs heights reads read-heights class-first cl
 
 loop-holds : tie.Need-loop-k-init invariant-loop decreases-loop
 loop-holds c = let s = c.args in
-    (omega arith, rows_none s.n s.m s.reps.now s.offs.now s.reads.now s.read-heights.now s.left-classes.now s.left-heights.now s.right-classes.now s.right-heights.now s.apart.now s.pairs.now c.requires.1.1.1.1)
+    (omega arith, rows_none s.n s.m s.reps.now s.offs.now s.reads.now s.read_heights.now s.left_classes.now s.left_heights.now s.right_classes.now s.right_heights.now s.apart.now s.pairs.now c.requires.1.1.1.1)
 
 answer-one-requires : tie.Need-answer_one-a-requires invariant-loop decreases-loop
 answer-one-requires c κs = let p = c.requires in (p.0, (p.1.0, (p.1.1.0, c.loop-k-test.true)))
 
 loop-again : tie.Need-loop-k-preserved invariant-loop decreases-loop
 loop-again c = let s = c.args in
-    (omega (arith, c.loop-k-test.true), rows_more s.n s.m s.reps.now s.offs.now s.reads.now s.read-heights.now s.left-classes.now s.left-heights.now s.right-classes.now s.right-heights.now s.apart.now s.pairs.now c.loop-k.invariant.1 c.loop-k-test.true c.answer_number.ensures c.answer_one-a.ensures)
+    (omega (arith, c.loop-k-test.true), rows_more s.n s.m s.reps.now s.offs.now s.reads.now s.read_heights.now s.left_classes.now s.left_heights.now s.right_classes.now s.right_heights.now s.apart.now s.pairs.now c.loop-k.invariant.1 c.loop-k-test.true c.answer_number.ensures c.answer_one-a.ensures)
 
 returns : tie.Need-returns invariant-loop decreases-loop
 returns c = let e : c.loop-k.k ≡ length c.args.questions.now = omega (arith, c.loop-k.invariant.0, c.loop-k-test.false) in rw e at c.loop-k.invariant.1

@@ -40,9 +40,9 @@ loop-again c =
     let s = l in
     let h = l.loop-p.invariant in
     let b = j.loop-p-test.true in
-    let lengths = j.join_equality.auto.1.1.1 in (
+    let lengths = j.join_equality.auto in (
       omega arith,
-      (lengths.0 ∙ h.1.0, (lengths.1.0 ∙ h.1.1.0, equalities_next _ _ s.requires.0.0 b h.1.1.1 (rw (c.if-not-join_equality.false) at j.join_equality.ensures))),
+      (lengths.parents ∙ h.1.0, (lengths.offsets ∙ h.1.1.0, equalities_next _ _ s.requires.0.0 b h.1.1.1 (rw (c.if-not-join_equality.false) at j.join_equality.ensures))),
     )
 
 returns-2 : tie.Need-returns invariant-loop decreases-loop

@@ -63,7 +63,7 @@ equated :
     c.join.result ≡ r →
     let s = start c in
     let x = proposition s in
-    Equated s.args.parents.now s.args.offsets.now c.join.new.0 c.join.new.1.0 x.left x.offset x.right r
+    Equated s.args.parents.now s.args.offsets.now c.join.new.parents c.join.new.offsets x.left x.offset x.right r
 equated c told =
     let indices = c in
     let e = indices.proposition_at-r.ensures in
@@ -74,19 +74,19 @@ joined : tie.Need-returns-in-Joined
 joined c =
     let j = c in
     let s = start j.before.before.before.before in
-    advance_joined _ _ s.pre.0.0 s.pre.0.1 s.pre.1.1 (kept j.before.before.before.before).0 (kept j.before.before.before.before).1 (equated j.before.before.before.before c.in-Joined.is)
+    advance_joined _ _ s.requires.0.0 s.requires.0.1 s.requires.1.1 (kept j.before.before.before.before).0 (kept j.before.before.before.before).1 (equated j.before.before.before.before c.in-Joined.is)
 
 held : tie.Need-returns-in-Held
 held c =
     let j = c in
     let s = start j.before.before.before.before in
-    advance_held _ _ s.pre.0.0 s.pre.0.1 s.pre.1.1 (kept j.before.before.before.before).0 (kept j.before.before.before.before).1 (equated j.before.before.before.before c.in-Held.is)
+    advance_held _ _ s.requires.0.0 s.requires.0.1 s.requires.1.1 (kept j.before.before.before.before).0 (kept j.before.before.before.before).1 (equated j.before.before.before.before c.in-Held.is)
 
 clashed : tie.Need-returns-in-Clashed
 clashed c =
     let j = c in
     let s = start j.before.before.before.before in
-    advance_clashed _ _ s.pre.0.0 s.pre.0.1 s.pre.1.1 (kept j.before.before.before.before).0 (kept j.before.before.before.before).1 (equated j.before.before.before.before c.in-Clashed.is)
+    advance_clashed _ _ s.requires.0.0 s.requires.0.1 s.requires.1.1 (kept j.before.before.before.before).0 (kept j.before.before.before.before).1 (equated j.before.before.before.before c.in-Clashed.is)
 
 pub join_equality_spec : {M : Type 1} → statement M
 join_equality_spec =

@@ -29,7 +29,7 @@ sides : (c : tie.After-index-right) → let n = length (start c.before.before.be
 sides c =
     let r = c in
     let s = start r.before.before.before in
-    let below = sides_below _ _ _ s.pre.0.0 s.args.p.0 s.pre.1.1 in
+    let below = sides_below _ _ _ s.requires.0.0 s.args.p.0 s.requires.1.1 in
     let e = r.proposition_at-r.ensures in
     (rw (c.index-left.ensures, e) below.0, rw (c.index-right.ensures, e) below.1)
 
@@ -45,8 +45,8 @@ holds-requires c κs =
     let i = c in
     let r = i in
     let s = start r.before.before.before.before.before.before in
-    let near = wider {C = far} (omega arith) (proposition_offset_within _ _ _ s.pre.0.0 s.args.p.0 s.pre.1.1) in
-    (s.pre.0.1, ((sides i.before.before.before).0, ((sides i.before.before.before).1, rw (to_z-of_z w64 _ (sfits_of c.struct_told-1.given.1.1.0.1), r.proposition_at-r.ensures) near)))
+    let near = wider {C = far} (omega arith) (proposition_offset_within _ _ _ s.requires.0.0 s.args.p.0 s.requires.1.1) in
+    (s.requires.0.1, ((sides i.before.before.before).0, ((sides i.before.before.before).1, rw (to_z-of_z w64 _ (sfits_of c.struct_told-1.given.1.1.0.1), r.proposition_at-r.ensures) near)))
 
 returns-2 : tie.Need-returns-then-r-eq-DISEQUALITY
 returns-2 c =
@@ -83,9 +83,9 @@ is_refuted_spec =
     (λ c κs. search rules)
     holds-requires
     returns-2
-    (λ c. left-fits c)
-    (λ c. (sides c).0)
-    (λ c. right-fits c)
-    (λ c. (sides c).1)
+    (λ c. left-fits c.before.before.before.before)
+    (λ c. (sides c.before.before.before.before.before).0)
+    (λ c. right-fits c.before.before.before.before.before)
+    (λ c. (sides c.before.before.before.before.before.before).1)
     returns-3
     returns-4)

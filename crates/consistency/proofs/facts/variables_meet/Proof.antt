@@ -61,8 +61,8 @@ variables_meet_spec =
     (λ c. omega (arith, few c))
     few
     returns
-    (λ c. omega (arith, few c))
-    (λ c. few c)
+    (λ c. omega (arith, few c.before))
+    (λ c. few c.before)
     (λ c. omega arith)
     (λ c. omega arith)
     loop-again-2

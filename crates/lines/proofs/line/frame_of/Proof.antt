@@ -40,7 +40,7 @@ returns-8 c = c.question_frame.ensures ∙ sym (frame_fields c.args.bytes.now 0x
 
 returns-9 : tie.Need-returns-in_default
 returns-9 c =
-    let r = c.in_default.rest in
+    let r = c.in_default.in_default-own.rest in
     let bytes = c.args.bytes.now in
     sym
     (frame_fields bytes c.wide-kind.result (omega arith) (sym c.wide-kind.ensures)

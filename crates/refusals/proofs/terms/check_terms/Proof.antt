@@ -2,7 +2,6 @@
 use Prim.Native.Nat.{ℕ}
 use mathlib.Core.Path.{◌≡◌, sym, ap, ◌∙◌}
 use mathlib.Core.Bool.{Bool}
-use mathlib.Core.Logic.{⊎_elim}
 use mathlib.Core.Option.{Option}
 use lib.ListN.{length}
 use borrow.Author.Rules.{rules}
@@ -16,6 +15,7 @@ use Rattle.refusals.specs.FirstFault.{place_or, Later, later_clear, later_fault,
 use Rattle.refusals.specs.Terms.{own_fault_at, repeated, repeat_fault_at, term_faults}
 use Rattle.refusals.proofs.terms.check_terms.Statement.{statement}
 use Rattle.refusals.proofs.terms.check_terms.Tie as tie
+use Rattle.refusals.proofs.terms.check_terms.Lts.{in-Refused+else-fault-repeat, in_default}
 
 -- the two searches of the table
 abbrev own : tie.Start → ℕ → Option Refusal
@@ -40,10 +40,10 @@ later : (c : tie.Joined-found) → let s = c in Later (own s.before.before.befor
 later c =
     let s = c in
     let e = c.first_own_fault-found.ensures in
-    ⊎_elim
-    (λ w. later_fault (own s.before.before.before) (again s.before.before.before) AtomListedTwice (count s.before.before.before) e w.1.given.1 (rw c.first_repeat-repeat.ensures at w.4.left))
-    (λ w. later_clear (own s.before.before.before) (again s.before.before.before) AtomListedTwice (count s.before.before.before) e w.1.given.1)
-    c.match-found.branch
+    elim c.match-found.branch [
+      in-Refused+else-fault-repeat w ↦ later_fault (own s.before.before.before) (again s.before.before.before) AtomListedTwice (count s.before.before.before) e w.in-Refused.is (rw c.first_repeat-repeat.ensures at w.if-fault-repeat.false)
+      | in_default w ↦ later_clear (own s.before.before.before) (again s.before.before.before) AtomListedTwice (count s.before.before.before) e w.in_default.is
+    ]
 
 returns : tie.Need-returns-then-fault-repeat
 returns c =

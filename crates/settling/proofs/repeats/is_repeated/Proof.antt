@@ -67,7 +67,7 @@ add-result-2 : tie.Need-overflow_add-result-2
 add-result-2 c = omega (arith, c.requires.0.low (c.args.noted % 512) (omega (arith, c.if-n-v.false)), c.requires.0.low c.args.x c.requires.1.1.0)
 
 returns-6 : tie.Need-returns
-returns-6 c = λ e. let s = c.args in repeated_true s.keys.now s.reads.now s.read-heights.now s.seen.now s.x s.y (s.noted / 512) (s.noted % 512) (omega (arith, c.if-n-u.false)) (omega (arith, c.if-n-v.false)) (omega (arith, c.index-i.ensures, c.if-n-i.false)) (omega (arith, c.index-j.ensures, c.if-n-j.false)) (rw (c.index-i.ensures, c.index-j.ensures) at (sym c.contains.ensures ∙ c.if-not-contains.false)) e
+returns-6 c = λ e. let s = c.args in repeated_true s.keys.now s.reads.now s.read_heights.now s.seen.now s.x s.y (s.noted / 512) (s.noted % 512) (omega (arith, c.if-n-u.false)) (omega (arith, c.if-n-v.false)) (omega (arith, c.index-i.ensures, c.if-n-i.false)) (omega (arith, c.index-j.ensures, c.if-n-j.false)) (rw (c.index-i.ensures, c.index-j.ensures) at (sym c.contains.ensures ∙ c.if-not-contains.false)) e
 
 pub is_repeated_spec : {M : Type 1} → statement M
 is_repeated_spec =
