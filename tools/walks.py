@@ -40,11 +40,17 @@ class Plain(dict):
 
 class Function:
     def __init__(self, told):
-        self.needs = Plain(told["needs"])
+        # by the old names, and by the new ones where port.py wrote these already
+        self.needs = Plain((new, new) for _, new in told["needs"])
+        for old, new in told["needs"]:
+            self.needs[old] = new
         self.order = [old for old, _ in told["needs"]]
         self.at = Plain()
         for (old, _), (place, _) in zip(told["needs"], told["asked_at"]):
             self.at[old] = place
+        for (old, new), (place, _) in zip(told["needs"], told["asked_at"]):
+            if plain(new) not in self.at:
+                self.at[new] = place
         self.parent, self.step, self.callee = Plain(), Plain(), Plain()
         for name, parent, step, callee, _ in told["places"]:
             self.parent[name], self.step[name], self.callee[name] = parent, step, callee

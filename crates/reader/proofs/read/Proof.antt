@@ -15,7 +15,7 @@ copy-rows-requires c κs =
     let l = c.load in
     let e = c.in-Accepted.is in
     let room = room_for_most _ (sym c.short.ensures ∙ c.if-short.false) in
-    (room_loaded _ _ _ _ l.ensures _ e, room_lent _ _ _ _ l.ensures _ e _ (omega (arith, l.auto.1.0)) (omega (arith, l.auto.1.1.0)) (omega (arith, l.auto.1.1.1.0)) room)
+    (room_loaded _ _ _ _ l.ensures _ e, room_lent _ _ _ _ l.ensures _ e _ (omega (arith, l.auto.terms)) (omega (arith, l.auto.propositions)) (omega (arith, l.auto.questions)) room)
 
 returns-2 : tie.Need-returns-in-Refused
 returns-2 c = read_refused _ _ (sym c.short.ensures ∙ c.if-short.false) _ _ (sym c.in-Refused.is ∙ c.load.ensures.judged.answer)

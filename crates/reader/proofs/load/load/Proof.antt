@@ -26,13 +26,13 @@ abbrev lent : tie.After-take_line invariant-loop decreases-loop → Rows
 lent c = let a = c.args in rows a.terms.now a.propositions.now a.questions.now
 
 abbrev now : tie.After-take_line invariant-loop decreases-loop → Rows
-now c = let l = c.take_line.new.1.1.1 in rows l.0 l.1.0 l.1.1.0
+now c = let l = c.take_line.new in rows l.terms l.propositions l.questions
 
 sized : (c : tie.After-take_line invariant-loop decreases-loop) → SameSizes (lent c) (now c)
 sized c =
-    let k = c.take_line.auto.1.1.1 in
+    let k = c.take_line.auto in
     let s = c.loop-start.invariant.1 in
-    record { terms = k.0 ∙ s.terms; propositions = k.1.0 ∙ s.propositions; questions = k.1.1.0 ∙ s.questions }
+    record { terms = k.terms ∙ s.terms; propositions = k.propositions ∙ s.propositions; questions = k.questions ∙ s.questions }
 
 -- what the line leaves
 stepped : (c : tie.After-take_line invariant-loop decreases-loop)
@@ -52,11 +52,11 @@ line-end-requires c κs = c.loop-start.invariant.0.within
 sub-line : tie.Need-slice_bounds-line-count invariant-loop decreases-loop
 sub-line c = rw c.line_end-end.ensures (end_after _ c.loop-start.start)
 
-part-line-start : tie.Need-slice-bounds-line-start invariant-loop decreases-loop
-part-line-start c = rw c.line_end_lem.ensures (end_after _ c.before.before.loop.start)
+part-line-start : tie.Need-slice_bounds-line-start invariant-loop decreases-loop
+part-line-start c = rw c.line_end-end.ensures (end_after _ c.loop-start.start)
 
-part-line-end : tie.Need-slice-bounds-line-end invariant-loop decreases-loop
-part-line-end c = rw c.line_end_lem.ensures (end_within _ c.before.before.loop.start c.before.before.loop.invariant.0.within)
+part-line-end : tie.Need-slice_bounds-line-end invariant-loop decreases-loop
+part-line-end c = rw c.line_end-end.ensures (end_within _ c.loop-start.start c.loop-start.invariant.0.within)
 
 take-line-requires : tie.Need-take_line-requires invariant-loop decreases-loop
 take-line-requires c κs = room_sized c.requires c.loop-start.invariant.1
