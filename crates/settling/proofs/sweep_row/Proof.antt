@@ -19,11 +19,11 @@ add-rest c = omega (arith, c.requires.1.1.1.0, c.requires.1.0.0.reading.few)
 mul-rest-3 : tie.Need-offset_bounds-seen-i
 mul-rest-3 c = omega (arith, c.requires.1.1.1.0, c.requires.1.0.0.reading.few)
 
-part-rest-start : tie.Need-slice-bounds-rest-start
-part-rest-start c = omega (arith, c.before.before.before.before.before.before.before.before.before.before.before.before.before.before.before.before.before.before.before.before.before.requires.1.1.1.0, c.before.before.before.before.before.before.before.before.before.before.before.before.before.before.before.before.before.before.before.before.before.requires.1.0.0.reading.few, c.before.before.before.before.before.before.before.before.before.before.before.before.before.before.before.before.before.before.before.before.before.requires.1.0.1.long)
+part-rest-start : tie.Need-slice_bounds-rest-start
+part-rest-start c = omega (arith, c.requires.1.1.1.0, c.requires.1.0.0.reading.few, c.requires.1.0.1.long)
 
-part-rest-end : tie.Need-slice-bounds-rest-end
-part-rest-end c = omega (arith, c.before.before.before.before.before.before.before.before.before.before.before.before.before.before.before.before.before.before.before.before.before.requires.1.1.1.0, c.before.before.before.before.before.before.before.before.before.before.before.before.before.before.before.before.before.before.before.before.before.requires.1.0.0.reading.few, c.before.before.before.before.before.before.before.before.before.before.before.before.before.before.before.before.before.before.before.before.before.requires.1.0.1.long)
+part-rest-end : tie.Need-slice_bounds-rest-end
+part-rest-end c = omega (arith, c.requires.1.1.1.0, c.requires.1.0.0.reading.few, c.requires.1.0.1.long)
 
 rest-requires : tie.Need-rest-requires
 rest-requires c κs = length-replicate {A = ℕ} 8 0
