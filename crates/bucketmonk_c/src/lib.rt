@@ -7,7 +7,7 @@ ghost use Rattle.frames.specs.Rows.{rows};
 ghost use Rattle.reader.specs.Answers.{part_at_fault};
 ghost use Rattle.driver.specs.Within.{WritesOutput};
 ghost use Rattle.numbers.specs.Numbers.{number_of_solved, blame_of_number};
-ghost use Rattle.bucketmonk_c.specs.Results.{AnsweredNumber, ReadNumber};
+ghost use Rattle.results.specs.Results.{AnsweredNumber, ReadNumber};
 
 use driver::write_output;
 use numbers::{blame_of, read_number, solved_number};

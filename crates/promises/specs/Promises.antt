@@ -13,7 +13,7 @@ use Rattle.reader.specs.Facts as reads
 use Rattle.solver.specs.Demands as solver
 use Rattle.driver.specs.Within as written
 use Rattle.driver.specs.Program as program
-use Rattle.bucketmonk_c.specs.Results as numbers
+use Rattle.results.specs.Results as numbers
 
 -- Demand 1. Every set of tables gets an answer; a refused call changes nothing; offsets never overflow (`largest_distance`).
 module _ (b : Blame) (T : Tables) (M N : Memory) (r : Solved) (A : Answered b T M N r) where

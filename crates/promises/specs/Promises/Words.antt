@@ -35,4 +35,4 @@ pub use Rattle.reader.specs.Answers.{short_rows, table_too_short, ReadAs, short,
 pub use Rattle.reader.specs.Passing.{read_tables, read_passes}
 pub use Rattle.solver.specs.Call.{terms_of, propositions_of, questions_of, verdict_of, Answered}
 pub use Rattle.driver.specs.Within.{WritesOutput}
-pub use Rattle.bucketmonk_c.specs.Results.{AnsweredNumber, ReadNumber}
+pub use Rattle.results.specs.Results.{AnsweredNumber, ReadNumber}
