@@ -99,7 +99,7 @@ def declared(top):
         if not is_lemma_file(path):
             continue
         for line in open(path, encoding="utf-8"):
-            m = re.match(r"\s*(?:unfoldable |abbrev )*(?:pub )?(?:unfoldable |abbrev )*(" + IDENT + r") :( |$)", line)
+            m = re.match(r"\s*(?:unfoldable |abbrev )*(?:pub )?(?:unfoldable |abbrev )*(" + IDENT + r")(?: \{ℓ\})? :( |$)", line)
             if m:
                 found.add(m.group(1))
             m = re.match(r"(?:abbrev )?(?:pub )?ruleset (" + IDENT + r")", line)

@@ -1,4 +1,7 @@
 // The blame for a contradiction. Public for the crate `solver`.
+
+#![tactic(auto)]
+
 ghost use Rattle.std.specs.Prelude.{◌≡◌, false, suc, ◌-◌, ◌<◌, ◌≤◌, length};
 ghost use Rattle.outcome.specs.Outcome.{marks_if};
 ghost use Rattle.tables.specs.Sets.{set_of};

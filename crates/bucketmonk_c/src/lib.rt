@@ -1,4 +1,7 @@
 // The solver, the reader and the program's output for programs in C. The header is include/bucketmonk.h.
+
+#![tactic(auto)]
+
 ghost use Rattle.std.specs.Prelude.{◌≡◌};
 ghost use Rattle.tables.specs.Memory.{memory_of};
 ghost use Rattle.tables.specs.TableFaults.{tables_of};

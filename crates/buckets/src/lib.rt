@@ -1,5 +1,8 @@
 // Buckets: for each key a chain of the numbers that have it, in rising order. Public for the crates `points`, `marking`, `expansion`,
 // `settling` and `questions`.
+
+#![tactic(auto)]
+
 ghost use Rattle.std.specs.Prelude.{◌≡◌, ◌<◌, ◌≤◌, ◌^◌, length};
 ghost use Rattle.lists.specs.Filled.{Filled};
 ghost use Rattle.tables.specs.Limits.{most};

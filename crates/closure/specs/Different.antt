@@ -1,8 +1,8 @@
 -- What is computed different is what the rules derive.
 use Prim.Native.Nat.{ℕ, zero, suc, ◌<◌, ◌≤◌}
-use Rattle.std.specs.Prelude.{◌≡◌, ◌≢◌, ◌⊎◌, ◌↔◌, Bool, ◌&&◌, ◌||◌, eqb, ℤ, pos, neg_ℤ, ◌+ℤ◌, ◌-ℤ◌, length}
+use Rattle.std.specs.Prelude.{◌≡◌, ◌≢◌, ◌⊎◌, ◌↔◌, Bool, ◌||◌, eqb, ℤ, pos, neg_ℤ, ◌+ℤ◌, ◌-ℤ◌, length}
 use Rattle.std.proofs.Math.Path.{refl}
-use Rattle.std.proofs.Common.{sym, ◌∙◌, ap, arith}
+use Rattle.std.proofs.Common.{sym, ap, arith}
 use Rattle.std.proofs.Math.Logic.{inl, inr, ⊎_elim}
 use Rattle.std.proofs.Math.Bool.{true, false, not}
 use mathlib.Core.List.{List, ◌∷◌}
@@ -10,15 +10,15 @@ use Rattle.std.proofs.Math.Option.{Option, none, some}
 use Rattle.std.proofs.Math.IntN.{neg_ℤ-neg_ℤ}
 use borrow.Author.Tests.{eqb-true, eq-eqb, not-true, not-false}
 use Rattle.integers.specs.Linear.{linear, value, ‹◌›, #◌, ◌⊕◌, ◌⊖◌, ⊝◌}
-use Rattle.integers.specs.Compare.{eq_ℤ, eq_ℤ_true, eq_ℤ_false, eq_eq_ℤ, ne_eq_ℤ}
+use Rattle.integers.specs.Compare.{eq_ℤ_true, eq_ℤ_false, eq_eq_ℤ, ne_eq_ℤ}
 use Rattle.lists.specs.Booleans.{and_true, both_true, false_true, or_cases, or_first, or_second, or_swap}
 use Rattle.lists.specs.Items.{Item, In, item_below}
-use Rattle.lists.specs.Search.{any, any_true, any_in, find, find_some, find_none}
+use Rattle.lists.specs.Search.{any_true, any_in, find, find_some, find_none}
 use Rattle.lists.specs.Collect.{in_cross, cross_in}
-use Rattle.lists.specs.Counting.{count, count_less}
+use Rattle.lists.specs.Counting.{count_less}
 use Rattle.rules.specs.Terms.{Term, deref, Comparison, Given, WellFormed}
 use Rattle.rules.specs.Rules.{Equal, Apart, Different}
-use Rattle.rules.specs.Assignments.{Placement, Holds}
+use Rattle.rules.specs.Assignments.{Placement}
 use Rattle.rules.specs.Soundness.{equal_holds}
 use Rattle.labels.specs.Labelling.{class_equal}
 use Rattle.labels.specs.Unique.{Canonical}

@@ -1,5 +1,5 @@
 -- The largest distance between two terms of one class of a satisfiable set, for any bound on the offsets.
-use Rattle.std.specs.Prelude.{ℕ, zero, suc, ◌+◌, ◌*◌, ◌^◌, ◌<◌, ◌≤◌, ◌≡◌, refl, Bool, true, false, List, ℤ, length}
+use Rattle.std.specs.Prelude.{ℕ, zero, suc, ◌*◌, ◌^◌, ◌<◌, ◌≤◌, ◌≡◌, refl, false, List, ℤ, length}
 use Rattle.std.proofs.Common.{arith, mul-le-mul_right, lit<}
 use Rattle.rules.specs.Terms.{Term, Given, WellFormed}
 use Rattle.rules.specs.Rules.{Equal}

@@ -1,7 +1,7 @@
 -- The largest distance (Distance) is reached, by a chain of auxiliaries.
-use Rattle.std.specs.Prelude.{ℕ, zero, suc, ◌+◌, ◌*◌, ◌^◌, ◌<◌, ◌≤◌, ◌≡◌, refl, ◌⊎◌, List, ℤ, pos, neg_ℤ, ◌+ℤ◌}
+use Rattle.std.specs.Prelude.{ℕ, zero, suc, ◌+◌, ◌*◌, ◌^◌, ◌<◌, ◌≤◌, ◌≡◌, refl, List, ℤ, pos, neg_ℤ, ◌+ℤ◌}
 use Rattle.std.proofs.Common.{sym, ◌∙◌, ap, ⊎_elim, arith}
-use Rattle.integers.specs.Linear.{linear, value, ‹◌›, #◌, ◌⊕◌, ⊝◌}
+use Rattle.integers.specs.Linear.{linear, value, #◌, ◌⊕◌, ⊝◌}
 use Rattle.lists.specs.Items.{Item, In, item_below, item_get_d, get_d_item}
 use Rattle.lists.specs.Tabulate.{tabulate, length_tabulate, tabulate_at}
 use Rattle.rules.specs.Terms.{Term, variable, auxiliary, deref, Proposition, equality, block_disequality, DistinctVariables, listed}

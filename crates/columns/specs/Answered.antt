@@ -1,11 +1,10 @@
 -- The bytes of the answers are those of the set.
-use Rattle.std.specs.Prelude.{ℕ, zero, suc, ◌<◌, ◌≡◌, refl, List, ◌∷◌, map, ℤ, get_or}
+use Rattle.std.specs.Prelude.{ℕ, zero, suc, ◌<◌, ◌≡◌, refl, List, ◌∷◌, map, ℤ}
 use Rattle.std.proofs.Math.Path.{sym, ap}
 use Rattle.std.proofs.Common.{◌∙◌, arith}
 use Rattle.std.proofs.Math.ListN.{length}
 use Rattle.std.proofs.Math.Seq.{ext_get_or}
 use Rattle.lists.specs.Tabulate.{tabulate, length_tabulate, from_zero}
-use Rattle.types.specs.declared.Answer.{Answer}
 use Rattle.types.specs.Numbers.{number_of_answer}
 use Rattle.rules.specs.Terms.{Comparison}
 use Rattle.labels.specs.View.{view}
@@ -18,7 +17,7 @@ use Rattle.placing.specs.Placed.{Labelled}
 use Rattle.differences.specs.Table.{Told}
 use Rattle.columns.specs.Telling.{facts_in, Labelling, answers_by, questions_in}
 use Rattle.columns.specs.Apartness.{rep_below}
-use Rattle.columns.specs.Meaning.{table_given, answer_told}
+use Rattle.columns.specs.Meaning.{answer_told}
 use Rattle.columns.specs.Asked.{Filled, Placed, RowsTold}
 
 map_tabulate : {A B : Type 0} (h : A → B) (g : ℕ → A) (k n : ℕ) → map h (tabulate g k n) ≡ tabulate (λ j. h (g j)) k n

@@ -1,5 +1,5 @@
 -- The table of apart classes holds what the rules derive apart.
-use Rattle.std.specs.Prelude.{ℕ, ◌+◌, ◌*◌, ◌<◌, ◌≤◌, ◌≢◌, ◌⊎◌, Bool, List, ltb, ℤ, length, get_or}
+use Rattle.std.specs.Prelude.{ℕ, ◌+◌, ◌*◌, ◌<◌, ◌≢◌, Bool, List, ltb, ℤ, length, get_or}
 use Rattle.std.proofs.Math.Path.{◌≡◌, refl, sym}
 use Rattle.std.proofs.Common.{◌∙◌, ap, inl, inr, ⊎_elim, arith}
 use Rattle.std.proofs.Math.Bool.{true, false}
@@ -13,9 +13,6 @@ use Rattle.rules.specs.Assignments.{Placement}
 use Rattle.rules.specs.Soundness.{equal_holds}
 use Rattle.labels.specs.Labelling.{class_equal}
 use Rattle.labels.specs.View.{view}
-use Rattle.closure.specs.Facts.{lists}
-use Rattle.closure.specs.Differences.{apart}
-use Rattle.closure.specs.Different.{apart_true, true_apart}
 use Rattle.tables.specs.Records.{variable_kind, is_same_atom}
 use Rattle.tables.specs.TermTable.{length_terms_from, term_from, variable_from, atoms_differ}
 use Rattle.tables.specs.PropositionTable.{proposition_from, block_from, sides_below, well_formed_from}
@@ -23,7 +20,7 @@ use Rattle.tables.specs.Sets.{Set, terms_in, propositions_in}
 use Rattle.pairbits.specs.Bits.{is_set}
 use Rattle.marking.specs.Marks.{Adds, bit_cases, no_bits, zeros}
 use Rattle.placing.specs.Apart.{ApartClasses}
-use Rattle.columns.specs.Telling.{facts_in, Labelling}
+use Rattle.columns.specs.Telling.{Labelling}
 
 module _ (S : Set) (reps : List ℕ) (offs : List ℤ) (L : Labelling S reps offs) where
   abbrev ts : List Term

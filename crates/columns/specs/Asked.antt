@@ -1,6 +1,6 @@
 -- The answers to the questions that rows hold, by the places of their sides.
-use Rattle.std.specs.Prelude.{ℕ, ◌+◌, ◌<◌, ◌≤◌, ◌≡◌, refl, ◌≢◌, List, ℤ, pos, ◌+ℤ◌, length, get_or, set}
-use Rattle.std.proofs.Common.{sym, ◌∙◌, ⊎_elim, arith, length-set, get_or-set_same, get_or-set_other}
+use Rattle.std.specs.Prelude.{ℕ, ◌+◌, ◌<◌, ◌≤◌, ◌≡◌, ◌≢◌, List, ℤ, pos, ◌+ℤ◌, length, get_or, set}
+use Rattle.std.proofs.Common.{◌∙◌, ⊎_elim, arith, length-set, get_or-set_same, get_or-set_other}
 use Rattle.lists.specs.Filled.{same_or_not}
 use Rattle.types.specs.declared.Answer.{Answer}
 use Rattle.types.specs.Numbers.{number_of_answer}
@@ -10,7 +10,6 @@ use Rattle.labels.specs.Spread.{far}
 use Rattle.tables.specs.Limits.{most}
 use Rattle.tables.specs.Rows.{Row, question_in}
 use Rattle.tables.specs.QuestionTable.{asked}
-use Rattle.points.specs.Places.{height, top}
 use Rattle.tables.specs.Sets.{Set}
 use Rattle.marking.specs.Marks.{Adds, zeros}
 use Rattle.placing.specs.Filling.{Lifted, TermPlaces, ReadPlaces, SidePlaces}

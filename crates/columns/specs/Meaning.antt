@@ -1,18 +1,18 @@
 -- The places of columns that were filled from rows, and what their differences mean: the pair table and the answers are those of the set.
-use Rattle.std.specs.Prelude.{ℕ, ◌+◌, ◌*◌, ◌<◌, ◌≤◌, ◌≡◌, refl, ◌≢◌, ◌⊎◌, Bool, true, false, List, eqb, ltb, ℤ, neg_ℤ, ◌+ℤ◌, ◌-ℤ◌, length}
-use Rattle.std.proofs.Common.{sym, ◌∙◌, ap, inl, inr, arith, eqb-true, eq-eqb, ne_eqb, ltb-true, ltb-false}
+use Rattle.std.specs.Prelude.{ℕ, ◌+◌, ◌*◌, ◌<◌, ◌≤◌, ◌≡◌, refl, ◌≢◌, ◌⊎◌, Bool, true, false, List, eqb, ℤ, neg_ℤ, ◌+ℤ◌, ◌-ℤ◌, length}
+use Rattle.std.proofs.Common.{sym, ◌∙◌, ap, inl, inr, arith, eqb-true, eq-eqb, ne_eqb}
 use Rattle.std.proofs.Math.Logic.{⊎_elim}
 use Rattle.std.proofs.Math.IntN.{pos}
 use Rattle.std.proofs.Math.ListN.{get_or}
 use Rattle.std.proofs.lemmas.List.{length-replicate}
 use Rattle.std.proofs.lemmas.Bool.{eqb-false, not-true}
 use Rattle.integers.specs.Linear.{linear, value, ‹◌›, #◌, ◌⊕◌, ◌⊖◌, ⊝◌}
-use Rattle.lists.specs.Booleans.{false_true, same_truth, or_cases, or_first, or_second, and_true}
+use Rattle.lists.specs.Booleans.{same_truth, or_cases, or_first, or_second, and_true}
 use Rattle.lists.specs.Filled.{same_or_not}
-use Rattle.lists.specs.Items.{Item, In, item_below}
-use Rattle.rules.specs.Terms.{Term, deref, disequality, Comparison, Given, listed}
-use Rattle.rules.specs.Rules.{Equal, Apart, Different}
-use Rattle.rules.specs.Assignments.{Placement, Holds}
+use Rattle.lists.specs.Items.{Item}
+use Rattle.rules.specs.Terms.{Term, deref, Comparison, Given, listed}
+use Rattle.rules.specs.Rules.{Apart, Different}
+use Rattle.rules.specs.Assignments.{Placement}
 use Rattle.rules.specs.Soundness.{equal_holds, different_differs}
 use Rattle.labels.specs.Labelling.{class_equal}
 use Rattle.labels.specs.View.{view}
@@ -22,18 +22,18 @@ use Rattle.closure.specs.Different.{at_symmetric, different_exact}
 use Rattle.types.specs.declared.Answer.{Answer}
 use Rattle.closure.specs.Verdict.{holds, holds_true, true_holds}
 use Rattle.outcome.specs.Outcome.{answer}
-use Rattle.outcome.specs.PairBits.{pair_bytes, pair_bits}
-use Rattle.tables.specs.Limits.{most, square_small}
+use Rattle.outcome.specs.PairBits.{pair_bytes}
+use Rattle.tables.specs.Limits.{square_small}
 use Rattle.tables.specs.Records.{deref_kind, disequality_kind}
 use Rattle.tables.specs.TermTable.{term_from, deref_from, inner_before}
 use Rattle.tables.specs.PropositionTable.{proposition_from, disequality_from, sides_below}
 use Rattle.tables.specs.Sets.{Set, terms_in, propositions_in}
-use Rattle.pairbits.specs.Bits.{is_set, Agree, pair_bits_told}
-use Rattle.marking.specs.Marks.{Adds, Room, zeros}
-use Rattle.points.specs.Places.{class, height, At, AtEither, Column}
+use Rattle.pairbits.specs.Bits.{is_set, pair_bits_told}
+use Rattle.marking.specs.Marks.{Adds, zeros}
+use Rattle.points.specs.Places.{class, height, At, AtEither}
 use Rattle.settling.specs.Settle.{Settled, one_class, apart_classes, moved}
-use Rattle.marking.specs.Classes.{height_of_other, differ_by_classes, places_differ}
-use Rattle.differences.specs.Table.{HoldsOf, Inverse, plain, Given as TableGiven, Told}
+use Rattle.marking.specs.Classes.{height_of_other, differ_by_classes}
+use Rattle.differences.specs.Table.{Inverse, plain, Given as TableGiven, Told}
 use Rattle.placing.specs.Filling.{level, Lifted, TermPlaces, ReadPlaces, SidePlaces}
 use Rattle.placing.specs.Apart.{ApartClasses}
 use Rattle.questions.specs.Answers.{Shows, Differ, by_classes, by_listed, by_mirrored, by_values, Judged, says_equal, says_different, says_neither}

@@ -1,4 +1,7 @@
 // The pair table and the answers of a set in rows: columns of places are filled from the rows and the labels, and judged.
+
+#![tactic(auto)]
+
 mod answering;
 
 ghost use Rattle.std.specs.Prelude.{◌≡◌, length};

@@ -1,21 +1,20 @@
 -- The last looks: each finds that all dereferences of one address agree, or two that do not, which are joined.
-use Rattle.std.specs.Prelude.{ℕ, ◌<◌, ◌≡◌, refl, Bool, true, false, List, ℤ, pos, length, get_or}
+use Rattle.std.specs.Prelude.{ℕ, ◌<◌, ◌≡◌, true, false, List, ℤ, pos, length}
 use Rattle.std.proofs.Common.{sym, ◌∙◌, ap, arith}
 use Rattle.rules.specs.Assignments.{Placement, Holds}
-use Rattle.integers.specs.Within.{Within, within_zero}
-use Rattle.labels.specs.Spread.{far}
+use Rattle.integers.specs.Within.{within_zero}
 use Rattle.labels.specs.View.{view}
-use Rattle.labels.specs.Joins.{Joined, weight, joined_lighter}
+use Rattle.labels.specs.Joins.{weight, joined_lighter}
 use Rattle.types.specs.declared.TermNumber.{TermNumber}
 use Rattle.tables.specs.Records.{TermRecord}
 use Rattle.tables.specs.Rows.{Row, term_in}
 use Rattle.tables.specs.TermTable.{AcceptedTerms}
 use Rattle.unionfind.specs.declared.Joining.{Joining}
-use Rattle.unionfind.specs.Forest.{Links, flat, Equated, Flattened}
+use Rattle.unionfind.specs.Forest.{flat, Equated, Flattened}
 use Rattle.lastlook.specs.declared.Look.{Look}
 use Rattle.lastlook.specs.Addresses.{SameAddress, Labelled, Looked}
 use Rattle.joins.specs.Labels.{Labels, Unchanged, Columns, labels_rooted, labels_near, joined_labels}
-use Rattle.joins.specs.Meeting.{Chain, more, Chased, going, Clash, own_labels, unchanged_chased}
+use Rattle.joins.specs.Meeting.{more, Chased, going, own_labels}
 use Rattle.congruence.specs.Closing.{Closing}
 
 pub flattened_unchanged : {p0 p : List ℕ} {o0 o : List ℤ} → Flattened p0 o0 p o → Unchanged p0 o0 p o

@@ -1,5 +1,8 @@
 // Congruence closure: dereferences of one address are joined until all agree. The last look shows that none is left. Where to look first
 // is noted in `uselists`.
+
+#![tactic(auto)]
+
 ghost use Rattle.std.specs.Prelude.{length};
 ghost use Rattle.tables.specs.Rows.{term_in};
 ghost use Rattle.tables.specs.TermTable.{AcceptedTerms};

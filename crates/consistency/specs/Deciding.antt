@@ -1,27 +1,25 @@
 -- The verdict on the kept propositions: the closed labels are an assignment, or a fact contradicts them.
-use Rattle.std.specs.Prelude.{ℕ, ◌+◌, ◌<◌, ◌≤◌, refl, ◌≢◌, ◌⊎◌, Bool, false, not, List, eqb, ltb, ℤ, pos, ◌+ℤ◌, length, get_or}
+use Rattle.std.specs.Prelude.{ℕ, ◌<◌, refl, ◌≢◌, Bool, false, not, List, eqb, ltb, ℤ, length, get_or}
 use Rattle.std.proofs.Math.Path.{◌≡◌, sym}
 use Rattle.std.proofs.Common.{◌∙◌, ap, inl, inr, ⊎_elim}
 use Rattle.std.proofs.Math.Bool.{true}
 use native.Mathlib.Omega.{arith}
 use borrow.Author.Tests.{eq-eqb, eqb-true, eqb-false, ltb-true, ltb-false}
-use Rattle.lists.specs.Items.{Item, In}
+use Rattle.lists.specs.Items.{In}
 use Rattle.lists.specs.Tabulate.{from_zero, select, select_in}
-use Rattle.rules.specs.Terms.{Term, variable, deref, Proposition, block_disequality, DistinctVariables, listed}
+use Rattle.rules.specs.Terms.{Proposition, block_disequality, DistinctVariables}
 use Rattle.rules.specs.Rules.{Contradiction}
 use Rattle.rules.specs.Assignments.{Placement, Holds, Assignment}
 use Rattle.labels.specs.Labelling.{deref_equal, equal_conflict, unequal_conflict, apart_conflict}
 use Rattle.labels.specs.View.{view}
 use Rattle.closure.specs.Facts.{comparison}
 use Rattle.closure.specs.Verdict.{holds, holds_true, true_holds}
-use Rattle.tables.specs.Records.{TermRecord, PropositionRecord, variable_kind, deref_kind, equality_kind, disequality_kind, block_disequality_kind, is_same_atom}
-use Rattle.tables.specs.Stands.{StandsFor, Asserts}
+use Rattle.tables.specs.Records.{TermRecord, PropositionRecord, variable_kind, disequality_kind, block_disequality_kind, is_same_atom}
+use Rattle.tables.specs.Stands.{Asserts}
 use Rattle.tables.specs.TermTable.{length_terms_from, term_from, deref_from, variable_from, atoms_differ}
 use Rattle.tables.specs.PropositionTable.{sides_below, proposition_from, disequality_from, block_from}
 use Rattle.tables.specs.Sets.{Set, AcceptedSet, terms_in, propositions_in}
-use Rattle.unionfind.specs.Forest.{flat}
-use Rattle.lastlook.specs.Addresses.{SameAddress}
-use Rattle.consistency.specs.Live.{is_kept, kept_of, kept, LiveAt, Live, EqualBelow, Equalities, kept_well_formed, kept_in, chain_live, equalities_live, equalities_below}
+use Rattle.consistency.specs.Live.{is_kept, kept_of, kept, LiveAt, EqualBelow, Equalities, kept_well_formed, kept_in, chain_live, equalities_live, equalities_below}
 use Rattle.joins.specs.Meeting.{Clash, chain_keeps}
 use Rattle.congruence.specs.Closing.{Agree, Closing, closed, clash}
 

@@ -1,27 +1,25 @@
 -- The labels of a set whose marked propositions are kept: what each step keeps of them.
-use Rattle.std.specs.Prelude.{ℕ, zero, suc, ◌+◌, ◌<◌, ◌≤◌, ◌≡◌, refl, ◌≢◌, Bool, true, false, not, List, eqb, ℤ, pos, neg_ℤ, ◌+ℤ◌, length, get_or}
-use Rattle.std.proofs.Common.{sym, ◌∙◌, ⊎_elim, arith, eq-eqb, ne_eqb}
+use Rattle.std.specs.Prelude.{ℕ, ◌+◌, ◌<◌, ◌≡◌, ◌≢◌, Bool, true, false, not, List, eqb, ℤ, neg_ℤ, length, get_or}
+use Rattle.std.proofs.Common.{◌∙◌, ⊎_elim, arith, eq-eqb, ne_eqb}
 use Rattle.lists.specs.Items.{Item, In}
 use Rattle.lists.specs.Tabulate.{tabulate, from_zero, select, in_select, select_in}
-use Rattle.rules.specs.Terms.{Term, Proposition, Given, listed, WellFormed}
+use Rattle.rules.specs.Terms.{Proposition, Given, listed, WellFormed}
 use Rattle.rules.specs.Rules.{E0, Contradiction}
 use Rattle.rules.specs.Assignments.{Placement, Holds}
 use Rattle.rules.specs.Monotone.{well_formed_less}
 use Rattle.labels.specs.Labelling.{equal_conflict}
 use Rattle.labels.specs.Relabel.{same_or_not}
-use Rattle.integers.specs.Within.{Within}
 use Rattle.labels.specs.Spread.{Spread}
 use Rattle.labels.specs.Steps.{State, Step, by_equality, by_congruence, reversed, Bounded, joined_state, joined_spread, Fresh, fresh_state, fresh_spread}
 use Rattle.labels.specs.Joins.{Linked, Joined, down, rise, joined_keeps, joined_holds}
 use Rattle.outcome.specs.BlameMinimal.{some_of}
-use Rattle.tables.specs.Limits.{most, offset_limit}
-use Rattle.tables.specs.Records.{PropositionRecord, equality_kind}
+use Rattle.tables.specs.Limits.{offset_limit}
+use Rattle.tables.specs.Records.{equality_kind}
 use Rattle.tables.specs.TermTable.{length_terms_from, deref_from}
 use Rattle.tables.specs.PropositionTable.{well_formed_from, bounded_from, sides_below, equality_from}
 use Rattle.tables.specs.Sets.{Set, AcceptedSet, terms_in, propositions_in}
 use Rattle.unionfind.specs.declared.Joining.{Joining}
 use Rattle.unionfind.specs.Forest.{Links, flat, Equated, joined, held, clashed}
-use Rattle.lastlook.specs.Addresses.{SameAddress}
 use Rattle.joins.specs.Labels.{Labels}
 use Rattle.joins.specs.Meeting.{Chain, start, more}
 

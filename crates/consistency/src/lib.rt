@@ -1,5 +1,8 @@
 // The verdict on the kept propositions of a set, by congruence closure: a union-find with offsets, joined along the kept equalities
 // and then wherever two dereferences read one address.
+
+#![tactic(auto)]
+
 mod equalities;
 mod facts;
 

@@ -1,4 +1,7 @@
 // The pair table of an accepted set, by the places of its terms, of what its dereferences read and of the sides of its disequalities.
+
+#![tactic(auto)]
+
 ghost use Rattle.std.specs.Prelude.{◌≡◌, ◌≤◌, length};
 ghost use Rattle.points.specs.Places.{Chained};
 ghost use Rattle.points.specs.Homes.{Unique};

@@ -1,5 +1,8 @@
 // Pairs of points of two classes by their distance: for each bucket of distances a list of candidates for the point of the first class,
 // each by its rank in its class. Public for the crates `marking` and `settling`.
+
+#![tactic(auto)]
+
 pub mod building;
 mod counting;
 mod levels;

@@ -11,7 +11,7 @@ use Rattle.types.specs.declared.Solved.{Solved}
 use Rattle.outcome.specs.PairBits.{pair_bytes}
 use Rattle.outcome.specs.Outcome.{Outcome}
 use Rattle.tables.specs.Limits.{most}
-use Rattle.tables.specs.RefusalLaws.{orElse-none}
+use Rattle.tables.specs.RefusalLaws.{or_else_none}
 use Rattle.tables.specs.TableFaults.{Tables, Sized, sized, sizes_fault, records_fault, tables_fault}
 use Rattle.tables.specs.Memory.{Memory, memory_of, call_fault, EnoughFor, Beyond, no_memory_fault, call_accepted}
 use Rattle.text.specs.Output.{label_frames, blame_frames, middle, outcome_frames}
@@ -39,7 +39,7 @@ not_both e = let z : ◌≡◌ {A = ℕ} 0 1 = cc in omega arith
 module _ (T : Tables) (accepted : tables_fault most T ≡ none) where
   few : Sized most T
   unfolding tables_fault
-  few = sized most T (orElse-none (sizes_fault most T) (records_fault T) accepted).0
+  few = sized most T (or_else_none (sizes_fault most T) (records_fault T) accepted).0
 
   enough : EnoughFor T zero_memory
   enough =

@@ -1,4 +1,7 @@
 // What the program writes for a text: the reader, the solver and the writer one after another.
+
+#![tactic(auto)]
+
 ghost use Rattle.std.specs.Prelude.{◌≡◌, ◌≤◌, length};
 ghost use Rattle.std.proofs.Math.Option.{none};
 ghost use Rattle.tables.specs.Limits.{most};

@@ -1,4 +1,7 @@
 // The pair table of all terms, from the bits of their homes. Public for the crate `differences`.
+
+#![tactic(auto)]
+
 ghost use Rattle.std.specs.Prelude.{◌≡◌, true, ◌≢◌, ℕ, ◌*◌, ◌<◌, ◌≤◌, length};
 ghost use Rattle.buckets.specs.Buckets.{Chains};
 ghost use Rattle.tables.specs.Limits.{most};

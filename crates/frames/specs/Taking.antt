@@ -1,10 +1,10 @@
 -- A frame after the records read so far, which the code holds by their counts and rows.
-use Rattle.std.specs.Prelude.{ℕ, ◌<◌, ◌≡◌, refl, Bool, true, false, ◌&&◌, ◌||◌, List, [], ◌∷◌, map, eqb, leb, length, take, get_or}
+use Rattle.std.specs.Prelude.{ℕ, ◌<◌, ◌≡◌, refl, Bool, true, false, List, [], ◌∷◌, map, leb, length, take, get_or}
 use Rattle.std.proofs.Common.{ap, sym, ◌∙◌, arith, get_or-take}
 use Rattle.std.proofs.Math.Option.{Option, none, some}
 use borrow.Author.Tests.{eq-eqb, ne_eqb, lt-leb}
 use Rattle.lists.specs.Items.{Item, In, item_below, get_d_item, item_map}
-use Rattle.lists.specs.Search.{any, any_true, any_false, any_in}
+use Rattle.lists.specs.Search.{any, any_true, any_in}
 use Rattle.types.specs.declared.Refusal.{Refusal}
 use Rattle.types.specs.declared.Refusal.TheVariants.{InnerNotListed, AtomListedTwice, Malformed}
 use Rattle.tables.specs.Limits.{most}

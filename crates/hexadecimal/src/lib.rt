@@ -1,4 +1,7 @@
 // Digits of hexadecimal, and the bytes and numbers that they spell. Public for the crates `lines` and `writer`.
+
+#![tactic(auto)]
+
 ghost use Rattle.std.specs.Prelude.{◌≡◌, ◌/◌, ◌≤◌, ◌<◌, length, take};
 ghost use Rattle.std.proofs.Math.Option.{some, none};
 ghost use Rattle.lists.specs.Search.{choose};

@@ -1,7 +1,6 @@
 -- Equality of whole numbers as a test.
 use Rattle.std.specs.Prelude.{ℕ, ◌≡◌, refl, ◌≢◌, Bool, true, false, eqb, ℤ, pos, negsuc}
 use Rattle.std.proofs.Common.{ap, arith, eqb-true, eq-eqb}
-use Rattle.std.proofs.lemmas.Bool.{eqb-false}
 
 unfoldable pub eq_ℤ : ℤ → ℤ → Bool
 eq_ℤ (pos m) (pos n) = eqb m n

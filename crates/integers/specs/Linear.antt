@@ -1,7 +1,7 @@
 -- Linear arithmetic on whole numbers, by way of `omega`, which reads natural numbers alone.
 -- A whole number z is `up z` less `dn z`. `linear` is `omega`'s set with the two laws between an equation of whole numbers and
 -- one of natural numbers; `value e` says what the two parts of a sum, a difference or a negation are.
-use Rattle.std.specs.Prelude.{ℕ, zero, suc, ◌+◌, ◌-◌, ◌<◌, ◌≤◌, ◌≡◌, refl, ◌≢◌, Bool, true, false, cond, T, ltb, ℤ, pos, negsuc, neg_ℤ, ◌+ℤ◌, ◌-ℤ◌}
+use Rattle.std.specs.Prelude.{ℕ, zero, suc, ◌+◌, ◌-◌, ◌<◌, ◌≤◌, ◌≡◌, refl, Bool, true, false, cond, ltb, ℤ, pos, negsuc, neg_ℤ, ◌+ℤ◌, ◌-ℤ◌}
 use Rattle.std.proofs.Common.{ap, ◌∙◌, sym, arith, ltb→lt, nltb→le}
 use Rattle.std.proofs.Math.IntN.{sub_ℕ}
 

@@ -1,1 +1,3 @@
 // Laws of whole numbers, in specs/. No code.
+
+#![tactic(auto)]

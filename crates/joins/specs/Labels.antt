@@ -1,9 +1,9 @@
 -- The labels of n terms as the union-find holds them: what its functions need, and what a step leaves.
-use Rattle.std.specs.Prelude.{ℕ, ◌+◌, ◌*◌, ◌<◌, ◌≤◌, ◌≡◌, refl, List, ℤ, pos, neg_ℤ, length, get_or}
+use Rattle.std.specs.Prelude.{ℕ, ◌<◌, ◌≤◌, ◌≡◌, refl, List, ℤ, pos, neg_ℤ, length, get_or}
 use Rattle.std.proofs.Common.{sym, ◌∙◌, arith, mul-le-mul_right}
 use Rattle.integers.specs.Linear.{linear, value, #◌}
 use Rattle.rules.specs.Assignments.{Placement}
-use Rattle.labels.specs.Relabel.{Rooted, keeps_rooted}
+use Rattle.labels.specs.Relabel.{Rooted}
 use Rattle.integers.specs.Within.{Within}
 use Rattle.labels.specs.Spread.{far, Spread, members_at_most, keeps_spread}
 use Rattle.labels.specs.Joins.{Joined, down, rise}

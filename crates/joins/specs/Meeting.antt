@@ -1,8 +1,7 @@
 -- Joins of dereferences of one address, one after another.
-use Rattle.std.specs.Prelude.{ℕ, ◌+◌, ◌<◌, ◌≡◌, refl, ◌≢◌, Bool, true, false, List, ℤ, pos, ◌+ℤ◌, length}
+use Rattle.std.specs.Prelude.{ℕ, ◌<◌, ◌≡◌, refl, Bool, true, false, List, ℤ, pos, ◌+ℤ◌, length}
 use Rattle.std.proofs.Common.{sym, ◌∙◌, ap, arith, SFits}
 use Rattle.integers.specs.Compare.{eq_ℤ, eq_ℤ_true}
-use Rattle.integers.specs.Linear.{value, #◌}
 use Rattle.rules.specs.Assignments.{Placement, Holds}
 use Rattle.std.specs.Int.{w64}
 use Rattle.integers.specs.Within.{Within, within_zero}
@@ -15,7 +14,7 @@ use Rattle.tables.specs.Records.{TermRecord, deref_kind}
 use Rattle.tables.specs.TermTable.{AcceptedTerms, inner_before, offset_within}
 use Rattle.unionfind.specs.declared.Root.{Root}
 use Rattle.unionfind.specs.declared.Joining.{Joining}
-use Rattle.unionfind.specs.Forest.{Links, flat, Found, Equated}
+use Rattle.unionfind.specs.Forest.{flat, Found, Equated}
 use Rattle.lastlook.specs.Addresses.{SameAddress}
 use Rattle.joins.specs.Labels.{Labels, Unchanged, unchanged_labels, unchanged_then, joined_labels}
 

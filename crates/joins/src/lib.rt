@@ -1,5 +1,8 @@
 // Joins of dereferences: one is looked up by the address that it reads, and joined with what is found there. Each join is tested where
 // it is made; where to look is noted in `uselists`. Public for the crate `congruence`.
+
+#![tactic(auto)]
+
 ghost use Rattle.std.specs.Prelude.{◌<◌, pos, length};
 ghost use Rattle.integers.specs.Within.{Within};
 ghost use Rattle.tables.specs.Limits.{offset_limit};

@@ -1,11 +1,11 @@
 -- A labelling gives each term a representative and an offset from it. It is a placement: its blocks are the representatives, its
 -- positions the offsets.
-use Rattle.std.specs.Prelude.{ℕ, ◌<◌, ◌≤◌, ◌≡◌, refl, ◌≢◌, List, ℤ, pos, neg_ℤ, ◌+ℤ◌, ◌-ℤ◌, length}
-use Rattle.std.proofs.Common.{sym, ◌∙◌}
-use Rattle.integers.specs.Linear.{linear, value, ‹◌›, #◌, ◌⊕◌, ◌⊖◌, ⊝◌}
+use Rattle.std.specs.Prelude.{ℕ, ◌<◌, ◌≤◌, ◌≡◌, ◌≢◌, List, ℤ, pos, ◌+ℤ◌, ◌-ℤ◌, length}
+use Rattle.std.proofs.Common.{sym}
+use Rattle.integers.specs.Linear.{linear, value, ‹◌›, #◌, ◌⊕◌, ◌⊖◌}
 use Rattle.lists.specs.Items.{Item, item_below}
 use Rattle.rules.specs.Terms.{Term, deref, Given, WellFormed}
-use Rattle.rules.specs.Rules.{Equal, E0, E1, E2, E3, E4, Apart, Contradiction}
+use Rattle.rules.specs.Rules.{Equal, E2, E3, E4, Apart, Contradiction}
 use Rattle.rules.specs.Assignments.{Placement, Holds}
 
 -- the rules derive each label

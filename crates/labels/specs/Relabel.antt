@@ -1,8 +1,7 @@
 -- A join relabels one class: what it keeps, and how far apart it can bring two terms.
-use Rattle.std.specs.Prelude.{ℕ, zero, suc, ◌+◌, ◌*◌, ◌<◌, ◌≤◌, ◌≡◌, refl, ◌≢◌, ◌⊎◌, Bool, true, false, List, eqb, ℤ, pos, neg_ℤ, ◌+ℤ◌, ◌-ℤ◌, length}
-use Rattle.std.proofs.Common.{sym, ◌∙◌, inl, inr, ⊎_elim, arith, eqb-true, eq-eqb, ne_eqb}
-use Rattle.std.proofs.lemmas.Bool.{eqb-false}
-use Rattle.integers.specs.Linear.{up, dn, linear, value, ‹◌›, #◌, ◌⊕◌, ◌⊖◌, ⊝◌}
+use Rattle.std.specs.Prelude.{ℕ, ◌<◌, ◌≤◌, ◌≡◌, ◌≢◌, List, ℤ, pos, neg_ℤ, ◌+ℤ◌, ◌-ℤ◌, length}
+use Rattle.std.proofs.Common.{sym, ◌∙◌, ⊎_elim, arith}
+use Rattle.integers.specs.Linear.{linear, value, ‹◌›, ◌⊕◌, ◌⊖◌, ⊝◌}
 pub use Rattle.lists.specs.Filled.{same_or_not}
 use Rattle.rules.specs.Terms.{Term, Given}
 use Rattle.rules.specs.Rules.{Equal, E2, E3}

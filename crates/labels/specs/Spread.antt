@@ -1,15 +1,15 @@
 -- Two terms of a class of s members are at most (s − 1) × W apart, where W bounds the offsets of the equalities joined.
 use Prim.Native.Nat.{ℕ, zero, suc, ◌+◌, ◌*◌, ◌^◌, ◌<◌, ◌≤◌}
-use Rattle.std.specs.Prelude.{◌≡◌, ◌≢◌, ◌⊎◌, Bool, true, false, eqb, ℤ, pos, ◌+ℤ◌, ◌-ℤ◌}
+use Rattle.std.specs.Prelude.{◌≡◌, ◌≢◌, Bool, true, false, eqb, ℤ, ◌+ℤ◌, ◌-ℤ◌}
 use Rattle.std.proofs.Math.Path.{refl}
-use Rattle.std.proofs.Common.{sym, ◌∙◌, inl, inr, mul-le-mul_right}
+use Rattle.std.proofs.Common.{sym, ◌∙◌, mul-le-mul_right}
 use Rattle.std.proofs.Math.Logic.{⊎_elim}
 use native.Mathlib.Omega.{arith}
-use borrow.Author.Tests.{eqb-true, eqb-false, eq-eqb, ne_eqb}
-use Rattle.integers.specs.Linear.{up, dn, linear, value, ‹◌›, #◌, ◌⊕◌, ◌⊖◌}
+use borrow.Author.Tests.{eq-eqb, ne_eqb}
+use Rattle.integers.specs.Linear.{up, dn, linear, value, ‹◌›, ◌⊕◌, ◌⊖◌}
 use Rattle.integers.specs.Within.{Within}
 use Rattle.rules.specs.Assignments.{Placement}
-use Rattle.labels.specs.Relabel.{Relabelled, Rooted, same_or_not}
+use Rattle.labels.specs.Relabel.{Relabelled, same_or_not}
 
 -- no offset of a labelling of at most 512 terms, and no sum of four such, leaves 64 bits
 abbrev pub far : ℕ

@@ -1,8 +1,8 @@
 -- The steps of a closure: a join by a given equality, or of two dereferences of one address. Each keeps a labelling sound, with
 -- lowest representatives, and within the bound on its distances.
-use Rattle.std.specs.Prelude.{ℕ, ◌+◌, ◌*◌, ◌<◌, ◌≤◌, ◌≡◌, refl, ◌≢◌, List, ℤ, pos, neg_ℤ, ◌+ℤ◌, ◌-ℤ◌, length}
+use Rattle.std.specs.Prelude.{ℕ, ◌<◌, ◌≡◌, refl, ◌≢◌, List, ℤ, pos, neg_ℤ, ◌+ℤ◌, ◌-ℤ◌, length}
 use Rattle.std.proofs.Common.{sym, ◌∙◌, arith, mul-le-mul_right}
-use Rattle.integers.specs.Linear.{linear, value, ‹◌›, #◌, ⊝◌}
+use Rattle.integers.specs.Linear.{value, ‹◌›, #◌, ⊝◌}
 use Rattle.lists.specs.Items.{Item, item_below}
 use Rattle.rules.specs.Terms.{Term, deref, Given, WellFormed}
 use Rattle.rules.specs.Rules.{Equal, E0, E1, E2}

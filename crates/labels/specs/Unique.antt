@@ -1,7 +1,7 @@
 -- A sound labelling that respects the given equalities and congruence, with lowest representatives, is the only one.
-use Rattle.std.specs.Prelude.{ℕ, ◌<◌, ◌≤◌, ◌≡◌, refl, List, ◌↔◌, ℤ, pos, ◌+ℤ◌, length}
-use Rattle.std.proofs.Common.{sym, ◌∙◌, arith}
-use Rattle.integers.specs.Linear.{linear, value, ‹◌›, #◌, ◌⊕◌}
+use Rattle.std.specs.Prelude.{ℕ, ◌<◌, ◌≤◌, ◌≡◌, List, ◌↔◌, ℤ, length}
+use Rattle.std.proofs.Common.{arith}
+use Rattle.integers.specs.Linear.{linear, value, ‹◌›, ◌⊕◌}
 use Rattle.rules.specs.Terms.{Term, Given}
 use Rattle.rules.specs.Rules.{Equal}
 use Rattle.rules.specs.Assignments.{Placement, Holds, Respects}

@@ -1,1 +1,3 @@
 // Laws of labellings by representatives and offsets, in specs/. No code.
+
+#![tactic(auto)]

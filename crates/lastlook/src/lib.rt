@@ -2,6 +2,8 @@
 // The dereferences are sorted by class and address. How they are sorted is not relied on: a test of the order carries the proof, and
 // if it should fail, all pairs are looked at.
 
+#![tactic(auto)]
+
 ghost use Rattle.std.specs.Prelude.{◌≡◌, ◌*◌, ◌^◌, ◌≤◌, ◌<◌, eqb, pos, length, get_or};
 ghost use Rattle.labels.specs.View.{view};
 ghost use Rattle.closure.specs.Facts.{comparison};

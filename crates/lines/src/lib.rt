@@ -1,4 +1,7 @@
 // What one line of hexadecimal says, whatever stands in the other lines. Public for the crates `frames` and `reader`.
+
+#![tactic(auto)]
+
 pub mod line;
 
 use types::{PropositionRecord, QuestionRecord, TermRecord};

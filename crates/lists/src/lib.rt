@@ -1,1 +1,3 @@
 // Searches in lists and their laws, in specs/. No code.
+
+#![tactic(auto)]

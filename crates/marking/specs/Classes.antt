@@ -1,14 +1,12 @@
 -- Terms that differ by their classes, and the sides of disequalities.
-use Rattle.std.specs.Prelude.{◌≡◌, ℕ, ◌+◌, ◌-◌, ◌*◌, ◌/◌, ◌<◌, ◌≤◌, Bool, true, false, not, ◌&&◌, ◌||◌, ◌≢◌, List, length, ◌==◌, refl}
-use Rattle.std.proofs.Common.{sym, ◌∙◌, inl, inr, ⊎_elim, arith, eqb-true, eq-eqb, lt-ltb, ltb-true, ne_eqb}
+use Rattle.std.specs.Prelude.{◌≡◌, ℕ, ◌+◌, ◌-◌, ◌*◌, ◌<◌, ◌≤◌, Bool, true, false, not, ◌&&◌, ◌||◌, ◌≢◌, List, length, ◌==◌}
+use Rattle.std.proofs.Common.{sym, ◌∙◌, inl, inr, ⊎_elim, arith, eqb-true, eq-eqb, ne_eqb}
 use Rattle.std.proofs.lemmas.Bool.{eqb-false, not-true}
-use Rattle.lists.specs.Booleans.{and_true, both_true, false_true, or_cases, or_second}
-use Rattle.lists.specs.Filled.{same_or_not}
+use Rattle.lists.specs.Booleans.{and_true}
 use Rattle.buckets.specs.Buckets.{less_or_not}
 use Rattle.pairbits.specs.Bits.{is_set}
 use Rattle.words.specs.Words.{is_bit_one, one_past, Spells}
-use Rattle.points.specs.Places.{class, height, At, AtEither, top}
-use Rattle.marking.specs.Marks.{Adds, One, Upto, adds_as}
+use Rattle.points.specs.Places.{class, height, AtEither, top}
 
 -- one class, at another height
 abbrev pub height_of_other : ℕ → ℕ → ℕ → ℕ → Bool

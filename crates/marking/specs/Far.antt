@@ -1,8 +1,7 @@
 -- The homes whose classes are apart from a class, as a mask.
-use Rattle.std.specs.Prelude.{◌≡◌, ℕ, ◌+◌, ◌*◌, ◌/◌, ◌%◌, ◌<◌, ◌≤◌, Bool, true, false, not, ◌&&◌, ◌||◌, ◌≢◌, ◌⊎◌, List, length, set, ◌==◌, nat_lt, slice_set, refl}
+use Rattle.std.specs.Prelude.{◌≡◌, ℕ, ◌+◌, ◌*◌, ◌/◌, ◌%◌, ◌<◌, ◌≤◌, Bool, true, false, not, ◌&&◌, ◌≢◌, ◌⊎◌, List, length, ◌==◌, nat_lt, slice_set, refl}
 use Rattle.std.proofs.Common.{sym, ◌∙◌, ap, inl, inr, ⊎_elim, arith, length-set, eqb-true, eq-eqb, lt-ltb, ltb-true, ne_eqb}
-use Rattle.std.proofs.lemmas.Bool.{eqb-false, not-true}
-use Rattle.lists.specs.Booleans.{and_true, both_true, false_true, or_cases, or_second}
+use Rattle.lists.specs.Booleans.{and_true, false_true, or_cases, or_second}
 use Rattle.lists.specs.Filled.{Filled, same_or_not}
 use Rattle.outcome.specs.PairBits.{bit_value, bit_value_below}
 use Rattle.buckets.specs.Buckets.{Chainable, Chains, key_of, NextOf, less_or_not}

@@ -1,5 +1,5 @@
 -- Tables in which terms of the same two classes that are as far apart have the same bit, so that one set bit tells all of them.
-use Rattle.std.specs.Prelude.{◌≡◌, ℕ, ◌+◌, ◌*◌, ◌<◌, ◌≤◌, true, ◌&&◌, List}
+use Rattle.std.specs.Prelude.{◌≡◌, ℕ, ◌+◌, ◌*◌, ◌<◌, true, ◌&&◌, List}
 use Rattle.std.proofs.Common.{sym, ◌∙◌, inl, inr, ⊎_elim, arith}
 use Rattle.lists.specs.Booleans.{and_true}
 use Rattle.pairbits.specs.Bits.{is_set}

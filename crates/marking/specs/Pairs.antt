@@ -3,7 +3,7 @@ use Rattle.std.specs.Prelude.{◌≡◌, ℕ, ◌+◌, ◌*◌, ◌<◌, ◌≤�
 use Rattle.std.proofs.Common.{sym, inl, inr, ⊎_elim, arith}
 use Rattle.lists.specs.Filled.{same_or_not}
 use Rattle.pairbits.specs.Bits.{is_set}
-use Rattle.points.specs.Places.{class, height, At, AtEither, Column, Here, Opposite, place_slot, slot_of, top}
+use Rattle.points.specs.Places.{class, height, AtEither, Column, Here, Opposite, place_slot, slot_of, top}
 use Rattle.distances.specs.Distances.{bucket_of_distance, bucket_same, candidate_of, Indexed, comes_before, Listed}
 use Rattle.marking.specs.Marks.{Adds, Both, Upto, adds_none, adds_as, adds_then}
 

@@ -1,4 +1,7 @@
 // The test of the lent memory, and cells that are all written. Public for the crates `blame` and `solver`.
+
+#![tactic(auto)]
+
 ghost use Rattle.std.specs.Prelude.{◌≡◌, ◌≤◌, length, replicate};
 ghost use Rattle.tables.specs.Limits.{most};
 ghost use Rattle.tables.specs.TableFaults.{acceptance};

@@ -1,4 +1,7 @@
 // One number for all that a call returns, and for a choice that it takes, for programs in C. Public for the crate `bucketmonk_c`.
+
+#![tactic(auto)]
+
 ghost use Rattle.std.specs.Prelude.{◌≤◌, ◌≡◌};
 ghost use Rattle.types.specs.Numbers.{number_of_refusal};
 ghost use Rattle.numbers.specs.Numbers.{number_of_solved, number_of_read, blame_of_number};

@@ -1,6 +1,6 @@
 -- Numbers and the bits that spell them in two's complement.
-use Rattle.std.specs.Prelude.{ℕ, zero, suc, ◌+◌, ◌-◌, ◌^◌, ◌<◌, ◌≤◌, ◌≡◌, refl, Bool, true, false, T, ℤ, pos, negsuc, neg_ℤ, ◌+ℤ◌, ◌-ℤ◌, nat_abs}
-use Rattle.std.proofs.Common.{sym, ◌∙◌, arith, leb-false, Fits, SFits, to_z, of_z}
+use Rattle.std.specs.Prelude.{ℕ, suc, ◌-◌, ◌^◌, ◌<◌, ◌≤◌, ◌≡◌, refl, true, false, T, ℤ, pos, negsuc, ◌-ℤ◌, nat_abs}
+use Rattle.std.proofs.Common.{arith, leb-false, Fits, SFits, to_z, of_z}
 use Rattle.std.specs.Int.Signed.{non_neg, le_z}
 use Rattle.std.specs.Int.{w64}
 use mir.ValLaws.{to_z-of_z, to_z_pos, to_z-neg}

@@ -2,6 +2,8 @@
 // Each function is exact on whole numbers. Public for the crates `tables`, `unionfind`, `lastlook`, `uselists`, `joins`, `consistency`,
 // `placing`, `refusals` and `writer`.
 
+#![tactic(auto)]
+
 ghost use Rattle.std.specs.Prelude.{◌≡◌, ℤ, ◌+ℤ◌, ◌-ℤ◌, neg_ℤ};
 ghost use Rattle.std.proofs.Common.{SFits, to_z, of_z};
 ghost use Rattle.std.specs.Int.{w32, w64};

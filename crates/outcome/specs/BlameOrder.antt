@@ -1,5 +1,5 @@
 -- Blame in its order: a proposition is dropped exactly if all before it and the kept ones after it are contradictory.
-use Prim.Native.Nat.{ℕ, zero, suc, ◌+◌, ◌<◌, ◌≤◌}
+use Prim.Native.Nat.{ℕ, zero, suc, ◌<◌, ◌≤◌}
 use Rattle.std.specs.Prelude.{◌≡◌, ◌≢◌, not, ltb, length, get_or, set, drop, replicate}
 use Rattle.std.proofs.Math.Path.{refl, sym, ap}
 use Rattle.std.proofs.Common.{◌∙◌, arith, get_or-set_other, ltb-true, ltb-false}

@@ -1,7 +1,7 @@
 -- Demands 2 and 3: what a run leaves is what the rules derive, and what that means in the assignments.
 -- Each theorem is about the outcome of a set whose dereferences, propositions and questions name listed terms.
 use Prim.Native.Nat.{ℕ, zero, suc, ◌+◌, ◌*◌, ◌/◌, ◌%◌, ◌<◌, ◌≤◌}
-use Rattle.std.specs.Prelude.{◌≡◌, ◌↔◌, Bool, not, List, [], ◌++◌, map, ℤ, pos, ◌+ℤ◌, ◌-ℤ◌, replicate}
+use Rattle.std.specs.Prelude.{◌≡◌, ◌↔◌, Bool, not, List, ◌++◌, map, ℤ, pos, ◌+ℤ◌, ◌-ℤ◌, replicate}
 use Rattle.std.proofs.Math.Path.{refl, sym, ap}
 use Rattle.std.proofs.Common.{◌∙◌}
 use Rattle.std.proofs.Math.Bool.{true, false}

@@ -1,5 +1,5 @@
 -- What a run on an accepted set leaves, and a call that asks for blame or does not.
-use Rattle.std.specs.Prelude.{ℕ, zero, suc, Bool, true, false, List, map, ℤ, pos, length, replicate}
+use Rattle.std.specs.Prelude.{ℕ, List, map, ℤ, pos, length, replicate}
 use Rattle.lists.specs.Search.{choose}
 use Rattle.types.specs.declared.Verdict.{Verdict}
 use Rattle.types.specs.declared.Verdict.TheVariants.{Satisfiable, Contradiction}
@@ -11,7 +11,7 @@ use Rattle.types.specs.Numbers.{number_of_answer}
 use Rattle.rules.specs.Terms.{Term, Proposition, Comparison}
 use Rattle.rules.specs.Assignments.{Placement}
 use Rattle.closure.specs.Facts.{Facts, facts}
-use Rattle.closure.specs.Join.{Label, placed, own}
+use Rattle.closure.specs.Join.{placed, own}
 use Rattle.closure.specs.Closure.{closure}
 use Rattle.closure.specs.Verdict.{holds, contradictory}
 use Rattle.closure.specs.Differences.{different}

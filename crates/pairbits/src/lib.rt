@@ -1,5 +1,8 @@
 // One bit of a byte table: bit i is bit i % 8, lowest first, of byte i / 8. Public for the crates `words`, `distances`,
 // `marking` and `refusals`.
+
+#![tactic(auto)]
+
 ghost use Rattle.std.specs.Prelude.{◌≡◌, ◌/◌, ◌<◌, length};
 ghost use Rattle.pairbits.specs.Bits.{is_set, with_bit};
 

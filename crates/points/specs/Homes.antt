@@ -1,6 +1,6 @@
 -- Homes: of the terms at one place the first stands for all of them, its own home and theirs.
-use Rattle.std.specs.Prelude.{◌≡◌, ℕ, ◌+◌, ◌<◌, ◌≤◌, Bool, true, false, ◌≢◌, ◌⊎◌, List, length, set, ◌==◌, slice_index, slice_set, refl}
-use Rattle.std.proofs.Common.{sym, ◌∙◌, inl, inr, ⊎_elim, arith, length-set, get_or-set_same, get_or-set_other, eq-eqb, ne_eqb}
+use Rattle.std.specs.Prelude.{◌≡◌, ℕ, ◌+◌, ◌<◌, ◌≤◌, Bool, true, false, ◌≢◌, ◌⊎◌, List, length, ◌==◌, slice_index, slice_set}
+use Rattle.std.proofs.Common.{sym, ◌∙◌, inl, inr, ⊎_elim, arith, get_or-set_same, get_or-set_other, eq-eqb, ne_eqb}
 use Rattle.lists.specs.Filled.{Filled, same_or_not}
 use Rattle.buckets.specs.Buckets.{NextOf, less_or_not}
 use Rattle.points.specs.Places.{class, Column, height, Here, place_slot, slot_of, Terms}

@@ -1,1 +1,3 @@
 // All that is promised, on one page: specs/Promises.antt. No code.
+
+#![tactic(auto)]

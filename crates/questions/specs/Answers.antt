@@ -1,10 +1,10 @@
 -- The answer to a question about two places, from the table of apart classes, the disequalities and the pair table.
-use Rattle.std.specs.Prelude.{ℕ, ◌+◌, ◌*◌, ◌<◌, ◌≤◌, ◌≡◌, true, List, length}
+use Rattle.std.specs.Prelude.{ℕ, ◌+◌, ◌*◌, ◌<◌, ◌≡◌, true, List}
 use Rattle.types.specs.declared.Answer.{Answer}
 use Rattle.types.specs.declared.Answer.TheVariants.{Neither, Equal, Different}
 use Rattle.pairbits.specs.Bits.{is_set}
 use Rattle.marking.specs.Marks.{Room}
-use Rattle.points.specs.Places.{class, height, top, At, Column, Chained}
+use Rattle.points.specs.Places.{class, height, At, Chained}
 use Rattle.marking.specs.Classes.{differ_by_classes, Sides}
 use Rattle.questions.specs.Sides.{SideChains}
 

@@ -1,5 +1,8 @@
 // The answer to a question about two places: equal where they are one, different by their classes, by a disequality or by what
 // dereferences of them read, or neither.
+
+#![tactic(auto)]
+
 pub mod sides;
 
 ghost use Rattle.std.specs.Prelude.{◌≡◌, ◌<◌, ◌≤◌};

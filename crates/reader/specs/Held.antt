@@ -11,13 +11,12 @@ use Rattle.std.proofs.Math.Seq.{take-length}
 use Rattle.std.specs.Int.{w64}
 use Rattle.lists.specs.Items.{Item, item_below, item_map}
 use Rattle.lists.specs.Tabulate.{tabulate}
-use Rattle.types.specs.declared.QuestionRecord.{QuestionRecord}
 use Rattle.rules.specs.Terms.{Term, variable, auxiliary, deref, block_disequality, Comparison}
 use Rattle.offsets.specs.Fits.{within_fits}
 use Rattle.tables.specs.Records.{TermRecord, PropositionRecord, term_of, proposition_of, question_of, offset_in_range, or_default}
 use Rattle.tables.specs.Stands.{StandsFor, stands_for, deref_within, asserts, in_range_lem, when_some}
 use Rattle.tables.specs.Refusals.{term_fault, proposition_fault, question_fault}
-use Rattle.tables.specs.RefusalLaws.{orElse-none, malformed_none}
+use Rattle.tables.specs.RefusalLaws.{or_else_none, malformed_none}
 use Rattle.tables.specs.Rows.{Row, term_of_row, row_of_term, term_in, proposition_of_row, row_of_proposition, proposition_in, question_of_row, row_of_question, question_in}
 use Rattle.tables.specs.RowLaws.{term_back, proposition_back, question_back}
 use Rattle.tables.specs.TermTable.{terms_from}
@@ -32,7 +31,7 @@ use Rattle.frames.specs.Rows.{Rows, asking, rows_with}
 term_fits : (earlier : List TermRecord) (r : TermRecord) → term_fault earlier r ≡ none → SFits w64 r.offset
 unfolding term_fault
 term_fits earlier r e =
-    let well = malformed_none (term_of r) (orElse-none _ _ e).0 in
+    let well = malformed_none (term_of r) (or_else_none _ _ e).0 in
     go well.0 well.1 (stands_for r well.0 well.1)
   where
     go : (x : Term) → term_of r ≡ some x → StandsFor r x → SFits w64 r.offset
@@ -43,13 +42,13 @@ term_fits earlier r e =
 proposition_fits : (n : ℕ) (p : PropositionRecord) → proposition_fault n p ≡ none → SFits w64 p.offset
 unfolding proposition_fault
 proposition_fits n p e =
-    let well = malformed_none (proposition_of p) (orElse-none _ _ e).0 in
+    let well = malformed_none (proposition_of p) (or_else_none _ _ e).0 in
     within_fits (omega arith) (asserts p well.0 well.1).within
 
 question_fits : (n : ℕ) (q : Comparison) → question_fault n q ≡ none → SFits w64 q.offset
 unfolding question_fault question_of
 question_fits n q e =
-    let well = malformed_none (question_of q) (orElse-none _ _ e).0 in
+    let well = malformed_none (question_of q) (or_else_none _ _ e).0 in
     within_fits (omega arith) (in_range_lem q.offset (when_some (offset_in_range q.offset) q well.0 well.1).0)
 
 tabulate_map : {A B : Type 0} (g : A → B) (f : ℕ → A) (l : List A) (k : ℕ)

@@ -1,4 +1,7 @@
 // The reader of paper 01's lines of hexadecimal, into the rows of three tables.
+
+#![tactic(auto)]
+
 mod load;
 
 ghost use Rattle.std.specs.Prelude.{◌≡◌};

@@ -1,4 +1,7 @@
 // The refusals of the three tables, in their order. The functions are public for the crate `solver`.
+
+#![tactic(auto)]
+
 mod fields;
 mod propositions;
 mod questions;

@@ -1,5 +1,5 @@
 -- What the rules derive holds in every assignment.
-use Rattle.std.specs.Prelude.{ℕ, ◌≡◌, refl, List, ℤ, pos, neg_ℤ, ◌+ℤ◌, ◌-ℤ◌}
+use Rattle.std.specs.Prelude.{ℕ, refl, List, ℤ}
 use Rattle.std.proofs.Common.{sym, ◌∙◌}
 use Rattle.integers.specs.Linear.{linear, value, ‹◌›, #◌, ◌⊕◌, ◌⊖◌, ⊝◌}
 use Rattle.rules.specs.Terms.{Term, Given}

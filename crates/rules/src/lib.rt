@@ -1,1 +1,3 @@
 // The rules of 2-pointer logic and its assignments, in specs/. No code.
+
+#![tactic(auto)]

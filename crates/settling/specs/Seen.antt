@@ -4,9 +4,9 @@ use Rattle.std.proofs.Common.{sym, ◌∙◌, ⊎_elim, arith, length-set, get_o
 use Rattle.lists.specs.Booleans.{false_true}
 use Rattle.lists.specs.Filled.{same_or_not}
 use Rattle.tables.specs.Limits.{most}
-use Rattle.buckets.specs.Buckets.{Chainable, Chains, key_of, less_or_not, NextOf}
+use Rattle.buckets.specs.Buckets.{Chainable, key_of, less_or_not, NextOf}
 use Rattle.points.specs.Places.{class}
-use Rattle.words.specs.Words.{in_mask, is_bit_one, mask_others, mask_stored}
+use Rattle.words.specs.Words.{in_mask, mask_others, mask_stored}
 use Rattle.marking.specs.Marks.{Room, zeros}
 use Rattle.marking.specs.Known.{Uniform}
 use Rattle.marking.specs.Rows.{no_numbers, OwnMask, zeros_long}

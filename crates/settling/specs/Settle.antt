@@ -1,7 +1,7 @@
 -- Inverse dereferencing over a table of pair bits: tables that grow by it, pairs of homes that were looked at, and a table that it adds
 -- nothing to.
 use Rattle.std.specs.Prelude.{ℕ, zero, suc, ◌+◌, ◌-◌, ◌*◌, ◌/◌, ◌%◌, ◌<◌, ◌≤◌, ◌≡◌, refl, ◌≢◌, ◌⊎◌, Bool, true, false, not, ◌&&◌, ◌||◌, List, eqb, length, get_or, take, drop}
-use Rattle.std.proofs.Common.{sym, ◌∙◌, ap, inl, inr, ⊎_elim, arith, eqb-true, eq-eqb, get_or-take, get_or-drop}
+use Rattle.std.proofs.Common.{sym, ◌∙◌, inl, inr, ⊎_elim, arith, eqb-true, eq-eqb, get_or-take, get_or-drop}
 use Rattle.lists.specs.Booleans.{and_true, false_true, or_cases, or_false, or_first, or_second}
 use Rattle.lists.specs.Search.{choose}
 use Rattle.lists.specs.Filled.{same_or_not}
@@ -12,7 +12,7 @@ use Rattle.points.specs.Leads.{lead}
 use Rattle.buckets.specs.Buckets.{Chains, key_of, less_or_not, NextOf}
 use Rattle.words.specs.Words.{Common, in_mask, is_bit_one, mask_past, NextOne, Put, Rest}
 use Rattle.marking.specs.Known.{Uniform, either_moving, uniform_adds}
-use Rattle.marking.specs.Marks.{Adds, Room, adds_already, bit_cases, past_kept, room_kept}
+use Rattle.marking.specs.Marks.{Adds, Room, bit_cases, past_kept, room_kept}
 
 -- the numbers below m that a test does not hold of
 unfoldable pub missing : (ℕ → Bool) → ℕ → ℕ

@@ -1,6 +1,9 @@
 // Inverse dereferencing: where what two dereferences read is different, so are the terms that stand as far apart as the places that they
 // read. Each bit that is set may give others, until a look at all pairs of homes finds nothing more. Which pairs of homes were looked at
 // is kept in a mask, pair (i, h) at number i * MOST + h.
+
+#![tactic(auto)]
+
 mod keys;
 mod repeats;
 mod seen;

@@ -1,6 +1,6 @@
 -- Just the rows that the counts say: the set and the questions that they hold are those of the tables.
 use Rattle.std.specs.Prelude.{◌≡◌, List, [], length, take}
-use Rattle.std.proofs.Common.{◌∙◌, ap, arith, get_or-take, length-take-le}
+use Rattle.std.proofs.Common.{◌∙◌, ap, get_or-take, length-take-le}
 use Rattle.std.proofs.Math.Option.{none}
 use Rattle.tables.specs.Limits.{most}
 use Rattle.tables.specs.Rows.{Row, term_of_row, proposition_of_row, question_of_row, term_in, proposition_in, question_in}

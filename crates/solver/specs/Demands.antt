@@ -29,7 +29,7 @@ use Rattle.outcome.specs.Lengths.{Lengths, outcome_lengths, length_marks}
 use Rattle.outcome.specs.Demands as outcomes
 use Rattle.tables.specs.Limits.{most, offset_limit}
 use Rattle.tables.specs.Rows.{term_in, proposition_in, question_in}
-use Rattle.tables.specs.RefusalLaws.{orElse-none}
+use Rattle.tables.specs.RefusalLaws.{or_else_none}
 use Rattle.tables.specs.PropositionTable.{well_formed_from, bounded_from}
 use Rattle.tables.specs.QuestionTable.{question_sides}
 use Rattle.tables.specs.TableFaults as faults
@@ -424,7 +424,7 @@ module _ (T : Tables) (r : Solved) (is : r ≡ verdict_of T) (accepted : tables_
 
   well_formed : WellFormed (terms_of T) (listed (terms_of T) (propositions_of T))
   unfolding tables_fault
-  well_formed = tables_well_formed T (faults.accepted T (orElse-none (sizes_fault most T) (records_fault T) accepted).1)
+  well_formed = tables_well_formed T (faults.accepted T (or_else_none (sizes_fault most T) (records_fault T) accepted).1)
 
   -- demand 2: contradiction exactly where one of the three conditions is derived
   pub verdict_derived : r ≡ Solved.Contradiction ↔ Contradiction (terms_of T) (listed (terms_of T) (propositions_of T))

@@ -1,5 +1,5 @@
 -- What the solver writes for an accepted set is the set's outcome.
-use Rattle.std.specs.Prelude.{ℕ, zero, suc, ◌+◌, ◌*◌, ◌<◌, ◌≤◌, ◌≡◌, refl, Bool, true, false, List, [], ◌∷◌, map, ℤ, pos, length, get_or}
+use Rattle.std.specs.Prelude.{ℕ, suc, ◌+◌, ◌<◌, ◌≤◌, ◌≡◌, refl, Bool, true, false, List, [], ◌∷◌, map, ℤ, pos, length, get_or}
 use Rattle.std.proofs.Math.Path.{sym}
 use Rattle.std.proofs.Common.{◌∙◌, ap, arith, ext_get_or}
 use Rattle.std.proofs.Math.ListN.{replicate}
@@ -14,14 +14,14 @@ use Rattle.rules.specs.Assignments.{Placement}
 use Rattle.labels.specs.Steps.{Fresh}
 use Rattle.labels.specs.Unique.{Canonical, canonical_equal}
 use Rattle.labels.specs.View.{view}
-use Rattle.closure.specs.Facts.{facts, lists}
+use Rattle.closure.specs.Facts.{lists}
 use Rattle.closure.specs.Join.{Label, unlabelled, placed, rep_at, off_at, own, own_at, length_own}
 use Rattle.closure.specs.Closure.{closure, length_closure}
-use Rattle.closure.specs.Verdict.{holds, holds_true, true_holds, contradictory, closure_canonical, canonical_computed}
+use Rattle.closure.specs.Verdict.{holds, holds_true, true_holds, closure_canonical, canonical_computed}
 use Rattle.closure.specs.Differences.{different}
 use Rattle.closure.specs.Different.{different_exact}
 use Rattle.outcome.specs.PairBits.{pair_bits, pair_bytes}
-use Rattle.outcome.specs.Outcome.{Outcome, answer, satisfiable, contradiction, outcome, marks_if}
+use Rattle.outcome.specs.Outcome.{answer, satisfiable, contradiction, outcome, marks_if}
 use Rattle.outcome.specs.Lengths.{marks_of_zeros}
 use Rattle.pairbits.specs.Bits.{pair_bits_same}
 use Rattle.tables.specs.Limits.{most}
@@ -30,14 +30,13 @@ use Rattle.tables.specs.TermTable.{length_terms_from}
 use Rattle.tables.specs.PropositionTable.{length_propositions_from}
 use Rattle.tables.specs.QuestionTable.{AcceptedQuestions, length_questions_from, question_sides}
 use Rattle.tables.specs.Sets.{Set, AcceptedSet, terms_in, propositions_in}
-use Rattle.tables.specs.Memory.{Memory}
 use Rattle.unionfind.specs.Forest.{Cleared}
 use Rattle.joins.specs.Labels.{spread_near}
 use Rattle.consistency.specs.Deciding as deciding
 use Rattle.consistency.specs.Deciding.{Decided}
 use Rattle.columns.specs.Telling.{facts_in, pairs_by, answers_by, questions_in, Labelling}
-use Rattle.solver.specs.Solving.{Leaves, Solves}
-use Rattle.blame.specs.Kept.{AllKept, is_contradictory, kept_listed, set_well_formed, decided_all}
+use Rattle.solver.specs.Solving.{Solves}
+use Rattle.blame.specs.Kept.{AllKept, is_contradictory, kept_listed, set_well_formed}
 use Rattle.blame.specs.Blaming.{marks_of_blame}
 
 module _ (S : Set) (good : AcceptedSet S) where

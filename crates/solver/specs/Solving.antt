@@ -1,5 +1,5 @@
 -- An accepted set in memory of just the cells that it needs, and what is left in them.
-use Rattle.std.specs.Prelude.{ℕ, ◌≤◌, ◌≡◌, List, length}
+use Rattle.std.specs.Prelude.{◌≤◌, ◌≡◌, List, length}
 use Rattle.types.specs.declared.Blame.{Blame}
 use Rattle.types.specs.declared.Solved.{Solved}
 use Rattle.rules.specs.Terms.{Comparison}

@@ -13,7 +13,7 @@ use Rattle.closure.specs.Verdict.{contradictory}
 use Rattle.tables.specs.Limits.{most}
 use Rattle.tables.specs.Rows.{Row}
 use Rattle.tables.specs.Refusals.{first_fault}
-use Rattle.tables.specs.RefusalLaws.{orElse-none}
+use Rattle.tables.specs.RefusalLaws.{or_else_none}
 use Rattle.tables.specs.QuestionTable.{questions_fault, questions_from}
 use Rattle.tables.specs.TableFaults.{Tables, tables_of, acceptance, lengths_fault, sizes_fault, records_fault, tables_fault, Sized, sized}
 use Rattle.refusals.specs.FirstFault.{accepts}
@@ -65,11 +65,11 @@ module _ (T : Tables) (e : Accepted ≡ acceptance (tables_fault most T)) where
 
   pub counts : Sized most T
   unfolding tables_fault
-  counts = sized most T (orElse-none (sizes_fault most T) (records_fault T) no_fault).0
+  counts = sized most T (or_else_none (sizes_fault most T) (records_fault T) no_fault).0
 
   pub no_records_fault : records_fault T ≡ none
   unfolding tables_fault
-  no_records_fault = (orElse-none (sizes_fault most T) (records_fault T) no_fault).1
+  no_records_fault = (or_else_none (sizes_fault most T) (records_fault T) no_fault).1
 
   pub verdict_decided : (b : Bool) → is_contradictory (counted_set T) ≡ not b → verdict_if b ≡ verdict_of T
   unfolding verdict_of

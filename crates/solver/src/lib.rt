@@ -1,5 +1,7 @@
 // The solver: tables of rows in, every answer of paper 01 out.
 
+#![tactic(auto)]
+
 ghost use Rattle.std.specs.Prelude.{◌≡◌};
 ghost use Rattle.tables.specs.Sets.{set_of};
 ghost use Rattle.tables.specs.Memory.{memory_of};

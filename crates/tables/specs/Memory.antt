@@ -9,7 +9,7 @@ use Rattle.outcome.specs.PairBits.{pair_bytes}
 use Rattle.outcome.specs.Outcome.{Outcome}
 use Rattle.tables.specs.Limits.{most}
 use Rattle.tables.specs.Refusals.{Fault, or_else, fault_if}
-use Rattle.tables.specs.RefusalLaws.{orElse-none, fault_if_none, both-none, not_faulty}
+use Rattle.tables.specs.RefusalLaws.{or_else_none, fault_if_none, both_none, not_faulty}
 use Rattle.tables.specs.TableFaults.{Tables, sizes_fault, records_fault, tables_fault, Sized, sized, Accepted, accepted, sizes_pass, records_pass}
 
 pub record Memory : Type 0 where
@@ -92,21 +92,21 @@ pub record Passed (T : Tables) (M : Memory) : Type 0 where
 pub passed : (T : Tables) (M : Memory) → call_fault T M ≡ none → Passed T M
 unfolding call_fault
 passed T M e =
-    let a = orElse-none (sizes_fault most T) (or_else (memory_fault T M) (records_fault T)) e in
-    let b = orElse-none (memory_fault T M) (records_fault T) a.1 in
+    let a = or_else_none (sizes_fault most T) (or_else (memory_fault T M) (records_fault T)) e in
+    let b = or_else_none (memory_fault T M) (records_fault T) a.1 in
     record { sized = sized most T a.0; enough = enough T M b.0; accepted = accepted T b.1 }
 
 pub call_unrefused : (T : Tables) (M : Memory) → Passed T M → call_fault T M ≡ none
 unfolding call_fault
 call_unrefused T M p =
-    both-none _ _ (sizes_pass most T p.sized) (both-none _ _ (no_memory_fault T M p.enough) (records_pass T p.accepted))
+    both_none _ _ (sizes_pass most T p.sized) (both_none _ _ (no_memory_fault T M p.enough) (records_pass T p.accepted))
 
 -- tables that are not refused, with enough memory
 pub call_accepted : (T : Tables) (M : Memory) → tables_fault most T ≡ none → memory_fault T M ≡ none → call_fault T M ≡ none
 unfolding call_fault tables_fault
 call_accepted T M e room =
-    let a = orElse-none (sizes_fault most T) (records_fault T) e in
-    both-none _ _ a.0 (both-none _ _ room a.1)
+    let a = or_else_none (sizes_fault most T) (records_fault T) e in
+    both_none _ _ a.0 (both_none _ _ room a.1)
 
 -- the memory with an outcome in its first cells
 unfoldable pub memory_with : Outcome → Memory → Memory

@@ -11,7 +11,7 @@ use Rattle.tables.specs.Rows.{term_in, proposition_in, question_in}
 use Rattle.tables.specs.TermTable.{terms_fault}
 use Rattle.tables.specs.PropositionTable.{propositions_fault}
 use Rattle.tables.specs.QuestionTable.{questions_fault}
-use Rattle.tables.specs.TableFaults.{Tables, count_fault, lengths_fault, sizes_fault, records_fault, tables_fault, Sized, sized}
+use Rattle.tables.specs.TableFaults.{Tables, count_fault, lengths_fault, sizes_fault, records_fault, tables_fault, sized}
 use Rattle.tables.specs.Memory.{Memory, too_short, room_fault, memory_fault, call_fault}
 
 -- the place of a fault, if there is one, is at most n

@@ -1,6 +1,6 @@
 -- A table of propositions over n terms: m records, whatever holds them. Its faults, the propositions it stands for, and the laws of an
 -- accepted one.
-use Rattle.std.specs.Prelude.{ℕ, ◌<◌, ◌≤◌, ◌≡◌, refl, ◌⊎◌, Bool, true, false, ◌||◌, List, leb, ℤ, length, get_or}
+use Rattle.std.specs.Prelude.{ℕ, ◌<◌, ◌≤◌, ◌≡◌, List, leb, length, get_or}
 use Rattle.std.proofs.Common.{sym, ◌∙◌, ap, ⊎_elim, arith, SFits}
 use Rattle.std.proofs.Math.Option.{Option, none, some}
 use Rattle.std.specs.Int.{w32}
@@ -8,16 +8,15 @@ use borrow.Author.Tests.{leb-false}
 use Rattle.lists.specs.Booleans.{or_false}
 use Rattle.lists.specs.Items.{Item, In, item_below, item_get_d, get_d_item}
 use Rattle.lists.specs.Tabulate.{tabulate, length_tabulate, from_zero, tabulate_ext}
-use Rattle.types.specs.declared.Refusal.{Refusal}
 use Rattle.types.specs.declared.Refusal.TheVariants.{PropositionTermNotListed}
-use Rattle.rules.specs.Terms.{Term, Proposition, equality, disequality, block_disequality, Given, DistinctVariables, listed, WellFormed}
+use Rattle.rules.specs.Terms.{Term, Proposition, equality, disequality, block_disequality, DistinctVariables, listed, WellFormed}
 use Rattle.integers.specs.Within.{Within}
 use Rattle.labels.specs.Steps.{Bounded}
 use Rattle.tables.specs.Limits.{offset_limit}
 use Rattle.tables.specs.Records.{TermRecord, PropositionRecord, equality_kind, disequality_kind, block_disequality_kind, proposition_of, or_default}
 use Rattle.tables.specs.Stands.{left_of, right_of, Asserts, asserts, equality_by_kind, disequality_by_kind, block_by_kind, proposition_kind_at_most}
-use Rattle.tables.specs.Refusals.{Fault, or_else, malformed, first_fault, proposition_name_fault, proposition_fault}
-use Rattle.tables.specs.RefusalLaws.{orElse-none, refuse_if_none, malformed_none}
+use Rattle.tables.specs.Refusals.{Fault, malformed, first_fault, proposition_name_fault, proposition_fault}
+use Rattle.tables.specs.RefusalLaws.{or_else_none, refuse_if_none, malformed_none}
 use Rattle.tables.specs.TermTable.{AcceptedTerms, terms_from, length_terms_from, deref_earlier, default_some}
 
 -- the first fault of m records over n terms
@@ -46,7 +45,7 @@ module _ (n m : ℕ) (rec : ℕ → PropositionRecord) (accepted : AcceptedPropo
   unfolding propositions_from proposition_fault
   proposition_from k {x} i =
       let h : k < m = omega (arith, item_below (propositions_from m rec) k i, length_propositions_from m rec) in
-      let well = malformed_none (proposition_of (rec k)) (orElse-none _ _ (accepted k h)).0 in (
+      let well = malformed_none (proposition_of (rec k)) (or_else_none _ _ (accepted k h)).0 in (
         h,
         asserts (rec k) x
             (default_some (block_disequality 0 0) (proposition_of (rec k)) x well.0 well.1
@@ -80,7 +79,7 @@ module _ (n m : ℕ) (rec : ℕ → PropositionRecord) (accepted : AcceptedPropo
   unfolding proposition_fault proposition_name_fault
   sides_below k h =
       let p = rec k in
-      let f = (orElse-none (malformed (proposition_of p)) (proposition_name_fault n p) (accepted k h)).1 in
+      let f = (or_else_none (malformed (proposition_of p)) (proposition_name_fault n p) (accepted k h)).1 in
       let b = or_false (leb n p.left) (leb n p.right) (refuse_if_none _ PropositionTermNotListed f) in
       (leb-false n p.left b.0, leb-false n p.right b.1)
 

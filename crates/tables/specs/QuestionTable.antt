@@ -12,7 +12,7 @@ use Rattle.rules.specs.Terms.{Comparison}
 use Rattle.tables.specs.Records.{question_of, offset_in_range}
 use Rattle.tables.specs.Stands.{range_fits, when_some}
 use Rattle.tables.specs.Refusals.{Fault, malformed, first_fault, question_name_fault, question_fault}
-use Rattle.tables.specs.RefusalLaws.{orElse-none, refuse_if_none, malformed_none}
+use Rattle.tables.specs.RefusalLaws.{or_else_none, refuse_if_none, malformed_none}
 
 -- what a record asks about
 abbrev pub asked : QuestionRecord → Comparison
@@ -37,7 +37,7 @@ pub asked_below : (n q : ℕ) (rec : ℕ → QuestionRecord) → AcceptedQuestio
 unfolding question_fault question_name_fault
 asked_below n q rec accepted k h =
     let c = asked (rec k) in
-    let f = (orElse-none (malformed (question_of c)) (question_name_fault n c) (accepted k h)).1 in
+    let f = (or_else_none (malformed (question_of c)) (question_name_fault n c) (accepted k h)).1 in
     let b = or_false (leb n c.left) (leb n c.right) (refuse_if_none _ QuestionTermNotListed f) in
     (leb-false n c.left b.0, leb-false n c.right b.1)
 
@@ -46,7 +46,7 @@ pub asked_fits : (n q : ℕ) (rec : ℕ → QuestionRecord) → AcceptedQuestion
 unfolding question_fault question_of
 asked_fits n q rec accepted k h =
     let c = asked (rec k) in
-    let well = malformed_none (question_of c) (orElse-none (malformed (question_of c)) (question_name_fault n c) (accepted k h)).0 in
+    let well = malformed_none (question_of c) (or_else_none (malformed (question_of c)) (question_name_fault n c) (accepted k h)).0 in
     range_fits c.offset (when_some (offset_in_range c.offset) c well.0 well.1).0
 
 -- and so does a question of the list

@@ -1,5 +1,5 @@
 -- The records of the tables, and what they stand for. A field that its kind does not use is 0.
-use Rattle.std.specs.Prelude.{ℕ, ◌<◌, Bool, true, false, ◌&&◌, ◌||◌, eqb, ltb, ℤ, pos, negsuc}
+use Rattle.std.specs.Prelude.{ℕ, Bool, ◌&&◌, ◌||◌, eqb, ltb, ℤ, pos, negsuc}
 use Rattle.std.proofs.Math.Option.{Option, none, some}
 use Rattle.integers.specs.Compare.{eq_ℤ}
 use Rattle.lists.specs.Search.{choose}

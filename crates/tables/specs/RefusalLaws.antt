@@ -5,9 +5,9 @@ use Rattle.std.proofs.Common.{arith}
 use Rattle.types.specs.declared.Refusal.{Refusal}
 use Rattle.tables.specs.Refusals.{Fault, or_else, refuse_if, fault_if, malformed, at_place, first_fault}
 
-pub orElse-none {ℓ} : {A : Type ℓ} (a b : Option A) → or_else a b ≡ none → (a ≡ none) × (b ≡ none)
-orElse-none none b e = (refl, e)
-orElse-none (some x) b e = (e, cc)
+pub or_else_none {ℓ} : {A : Type ℓ} (a b : Option A) → or_else a b ≡ none → (a ≡ none) × (b ≡ none)
+or_else_none none b e = (refl, e)
+or_else_none (some x) b e = (e, cc)
 
 pub refuse_if_none : (b : Bool) (r : Refusal) → refuse_if b r ≡ none → b ≡ false
 refuse_if_none true r e = cc
@@ -37,9 +37,9 @@ first_fault_none f k (suc n) e (suc i) h =
 pub none_at : (f : ℕ → Option Refusal) (n : ℕ) → first_fault f 0 n ≡ none → (k : ℕ) → k < n → f k ≡ none
 none_at f n e k h = let s : 0 + k ≡ k = omega arith in rw s at (first_fault_none f 0 n e k h)
 
-pub both-none {ℓ} : {A : Type ℓ} (a b : Option A) → a ≡ none → b ≡ none → or_else a b ≡ none
-both-none none b e f = f
-both-none (some x) b e f = e
+pub both_none {ℓ} : {A : Type ℓ} (a b : Option A) → a ≡ none → b ≡ none → or_else a b ≡ none
+both_none none b e f = f
+both_none (some x) b e f = e
 
 pub not_faulty : (b : Bool) (r : Refusal) (k : ℕ) → b ≡ false → fault_if b r k ≡ none
 not_faulty b r k e = rw e

@@ -1,7 +1,7 @@
 -- The refusals of records, and the first fault of a table.
-use Rattle.std.specs.Prelude.{ℕ, zero, suc, Bool, true, false, ◌&&◌, ◌||◌, List, eqb, ltb, leb, length, take}
+use Rattle.std.specs.Prelude.{ℕ, zero, suc, Bool, ◌&&◌, ◌||◌, List, eqb, leb, length}
 use Rattle.std.proofs.Math.Option.{Option, none, some}
-use Rattle.lists.specs.Search.{choose, any, is_some}
+use Rattle.lists.specs.Search.{choose, any}
 use Rattle.types.specs.declared.Refusal.{Refusal}
 use Rattle.types.specs.declared.Refusal.TheVariants.{InnerNotListed, AtomListedTwice, PropositionTermNotListed, QuestionTermNotListed, Malformed}
 pub use Rattle.types.specs.declared.Fault.{Fault}

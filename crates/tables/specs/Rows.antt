@@ -3,7 +3,6 @@
 use Rattle.std.specs.Prelude.{ℕ, List, [], ◌∷◌, get_or}
 use Rattle.std.specs.Int.{w64}
 use Rattle.std.proofs.Common.{to_z, of_z}
-use Rattle.rules.specs.Terms.{Comparison}
 use Rattle.types.specs.declared.TermRecord.{TermRecord}
 use Rattle.types.specs.declared.PropositionRecord.{PropositionRecord}
 use Rattle.types.specs.declared.QuestionRecord.{QuestionRecord}

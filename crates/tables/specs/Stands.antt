@@ -1,7 +1,7 @@
 -- A well_formed record and the term or proposition that it stands for have the same kind and fields.
 use Rattle.std.specs.Prelude.{ℕ, ◌<◌, ◌≤◌, ◌≡◌, refl, ◌≢◌, Bool, true, false, ◌&&◌, eqb, ltb, ℤ, pos, negsuc}
-use Rattle.std.proofs.Common.{sym, ◌∙◌, arith, SFits, eqb-true, ltb-true}
-use Rattle.std.proofs.Math.Option.{Option, none, some}
+use Rattle.std.proofs.Common.{arith, SFits, eqb-true, ltb-true}
+use Rattle.std.proofs.Math.Option.{some}
 use Rattle.std.specs.Int.{w32}
 use Rattle.offsets.specs.Fits.{fits_within}
 use Rattle.integers.specs.Compare.{eq_ℤ, eq_ℤ_true}

@@ -1,5 +1,5 @@
 -- A table of terms: n records, whatever holds them. Its faults, the terms it stands for, and the laws of an accepted one.
-use Rattle.std.specs.Prelude.{ℕ, ◌<◌, ◌≤◌, ◌≡◌, refl, ◌≢◌, Bool, true, ◌&&◌, ◌||◌, List, ℤ, length, get_or}
+use Rattle.std.specs.Prelude.{ℕ, ◌<◌, ◌≤◌, ◌≡◌, ◌≢◌, ◌&&◌, List, ℤ, length, get_or}
 use Rattle.std.proofs.Common.{sym, ◌∙◌, ap, ⊎_elim, arith, SFits}
 use Rattle.std.proofs.Math.Bool.{false}
 use Rattle.std.proofs.Math.Option.{Option, none, some}
@@ -11,14 +11,14 @@ use Rattle.lists.specs.Search.{any, any_false}
 use Rattle.lists.specs.Tabulate.{tabulate, length_tabulate, from_zero, tabulate_ext}
 use Rattle.types.specs.declared.Refusal.{Refusal}
 use Rattle.types.specs.declared.Refusal.TheVariants.{InnerNotListed, AtomListedTwice}
-use Rattle.rules.specs.Terms.{Term, variable, auxiliary, deref, DistinctVariables}
+use Rattle.rules.specs.Terms.{Term, variable, auxiliary, deref}
 use Rattle.labels.specs.Relabel.{same_or_not}
 use Rattle.integers.specs.Within.{Within}
 use Rattle.tables.specs.Limits.{atom_limit, offset_limit}
 use Rattle.tables.specs.Records.{TermRecord, variable_kind, deref_kind, term_of, is_same_atom, or_default}
 use Rattle.tables.specs.Stands.{StandsFor, stands_for, deref_within, deref_by_kind, variable_by_kind, kind_at_most}
-use Rattle.tables.specs.Refusals.{Fault, or_else, refuse_if, malformed, first_fault, term_name_fault, term_fault}
-use Rattle.tables.specs.RefusalLaws.{orElse-none, refuse_if_none, malformed_none}
+use Rattle.tables.specs.Refusals.{Fault, refuse_if, malformed, first_fault, term_name_fault, term_fault}
+use Rattle.tables.specs.RefusalLaws.{or_else_none, refuse_if_none, malformed_none}
 
 -- the fault of record k, after those before it
 abbrev pub term_fault_at : (ℕ → TermRecord) → ℕ → Option Refusal
@@ -54,7 +54,7 @@ module _ (n : ℕ) (rec : ℕ → TermRecord) (accepted : AcceptedTerms n rec) w
   unfolding terms_from term_fault
   term_from k {x} i =
       let h : k < n = omega (arith, item_below (terms_from n rec) k i, length_terms_from n rec) in
-      let well = malformed_none (term_of (rec k)) (orElse-none _ _ (accepted k h)).0 in (
+      let well = malformed_none (term_of (rec k)) (or_else_none _ _ (accepted k h)).0 in (
         h,
         stands_for (rec k) x
             (default_some (auxiliary 0) (term_of (rec k)) x well.0 well.1
@@ -85,8 +85,8 @@ module _ (n : ℕ) (rec : ℕ → TermRecord) (accepted : AcceptedTerms n rec) w
       let earlier = tabulate rec 0 k in
       let late = eqb r.kind deref_kind && leb (length earlier) r.number in
       let twice = refuse_if (any (is_same_atom r) earlier) AtomListedTwice in
-      let f = (orElse-none (malformed (term_of r)) (term_name_fault earlier r) (accepted k h)).1 in
-      let e : late ≡ false = refuse_if_none late InnerNotListed (orElse-none (refuse_if late InnerNotListed) twice f).0 in
+      let f = (or_else_none (malformed (term_of r)) (term_name_fault earlier r) (accepted k h)).1 in
+      let e : late ≡ false = refuse_if_none late InnerNotListed (or_else_none (refuse_if late InnerNotListed) twice f).0 in
       let m : leb (length earlier) r.number ≡ false = rw (eq-eqb r.kind deref_kind d) at e in
       omega (arith, leb-false (length earlier) r.number m, length_tabulate rec 0 k)
 
@@ -94,7 +94,7 @@ module _ (n : ℕ) (rec : ℕ → TermRecord) (accepted : AcceptedTerms n rec) w
   pub offset_within : (k : ℕ) → k < n → (rec k).kind ≡ deref_kind → Within offset_limit (rec k).offset
   unfolding term_fault
   offset_within k h e =
-      let well = malformed_none (term_of (rec k)) (orElse-none _ _ (accepted k h)).0 in
+      let well = malformed_none (term_of (rec k)) (or_else_none _ _ (accepted k h)).0 in
       deref_within (rec k) well.0 well.1 e
 
   -- bounds of a record's fields
@@ -119,8 +119,8 @@ module _ (n : ℕ) (rec : ℕ → TermRecord) (accepted : AcceptedTerms n rec) w
       let earlier = tabulate rec 0 k in
       let late = eqb r.kind deref_kind && leb (length earlier) r.number in
       let twice = any (is_same_atom r) earlier in
-      let f = (orElse-none (malformed (term_of r)) (term_name_fault earlier r) (accepted k h)).1 in
-      let e : twice ≡ false = refuse_if_none twice AtomListedTwice (orElse-none (refuse_if late InnerNotListed) (refuse_if twice AtomListedTwice) f).1 in
+      let f = (or_else_none (malformed (term_of r)) (term_name_fault earlier r) (accepted k h)).1 in
+      let e : twice ≡ false = refuse_if_none twice AtomListedTwice (or_else_none (refuse_if late InnerNotListed) (refuse_if twice AtomListedTwice) f).1 in
       let i = get_d_item earlier j r (omega (arith, length_tabulate rec 0 k)) in
       any_false (is_same_atom r) earlier e (rec j) (j, rw (from_zero rec k j r l) at i)
 

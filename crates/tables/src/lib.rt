@@ -1,6 +1,9 @@
 // The rows of the tables: fields of 64 bits, offsets in two's complement. The two functions of each table are the only ones that know
 // its layout: one reads a row into a record, one makes a row of a record. Public for the crates
 // `lastlook`, `joins`, `congruence`, `consistency`, `placing`, `columns`, `refusals` and `frames`; the types of rows for all that hand them on.
+
+#![tactic(auto)]
+
 pub mod atoms;
 
 ghost use Rattle.std.specs.Prelude.{◌≡◌, ◌<◌, length};

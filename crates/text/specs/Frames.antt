@@ -1,5 +1,5 @@
 -- Frames: what one line says, whatever stands in the other lines.
-use Rattle.std.specs.Prelude.{ℕ, zero, suc, Bool, true, false, ◌&&◌, List, [], ◌∷◌, eqb, ℤ, pos, length, take, drop}
+use Rattle.std.specs.Prelude.{ℕ, List, [], ◌∷◌, eqb, ℤ, pos, length, take, drop}
 use Rattle.std.proofs.Math.Option.{Option, none, some}
 use Rattle.lists.specs.Search.{choose}
 use Rattle.rules.specs.Terms.{Comparison}

@@ -8,14 +8,14 @@ use Rattle.types.specs.declared.Refusal.{Refusal}
 use Rattle.types.specs.declared.Refusal.TheVariants.{TooManyTerms, TooManyPropositions, TooManyQuestions, Malformed, GroupOrder}
 use Rattle.tables.specs.Limits.{most}
 use Rattle.tables.specs.Refusals.{Fault, or_else, refuse_if, term_name_fault, proposition_name_fault, question_name_fault}
-use Rattle.tables.specs.RefusalLaws.{orElse-none, refuse_if_none}
+use Rattle.tables.specs.RefusalLaws.{or_else_none, refuse_if_none}
 use Rattle.text.specs.Lines.{Line, lf, before, lines_of}
 use Rattle.text.specs.Frames.{Frame, term, proposition, question, frame_of}
 use Rattle.text.specs.Reading.{Records, nothing, reading, line_start, part_of, refused, is_empty, full, frame_fault, with_frame, Step, refuse, go_on, step_fault, step_frame, step, after, read_lines}
 
 not_full : {A : Type 0} (l : List A) (r : Refusal) (o : Option Refusal) → or_else (refuse_if (full l) r) o ≡ none → (length l < most) × (o ≡ none)
 not_full l r o e =
-    let a = orElse-none (refuse_if (full l) r) o e in
+    let a = or_else_none (refuse_if (full l) r) o e in
     (leb-false most (length l) (refuse_if_none (full l) r a.0), a.1)
 
 -- an accepted line: its frame, which has no fault after the records R, and the records with it
@@ -41,7 +41,7 @@ Admitted R (question q) = (length R.questions < most) × (question_name_fault (l
 pub frame_admitted : (R : Records) (f : Frame) → frame_fault R f ≡ none → Admitted R f
 unfolding frame_fault
 frame_admitted R (term r) e =
-    let a = orElse-none (refuse_if (not (is_empty R.propositions) || not (is_empty R.questions)) GroupOrder) _ e in
+    let a = or_else_none (refuse_if (not (is_empty R.propositions) || not (is_empty R.questions)) GroupOrder) _ e in
     let g = groups (is_empty R.propositions) (is_empty R.questions) (refuse_if_none _ GroupOrder a.0) in
     let m = not_full R.terms TooManyTerms (term_name_fault R.terms r) a.1 in
     (g.0, g.1, m.0, m.1)
@@ -52,7 +52,7 @@ frame_admitted R (term r) e =
     groups false b e = (sym e, cc)
 frame_admitted R (proposition p) e =
     not_full R.propositions TooManyPropositions (proposition_name_fault (length R.terms) p)
-    (orElse-none (refuse_if (not (is_empty R.questions)) GroupOrder) _ e).1
+    (or_else_none (refuse_if (not (is_empty R.questions)) GroupOrder) _ e).1
 frame_admitted R (question q) e = not_full R.questions TooManyQuestions (question_name_fault (length R.terms) q) e
 
 -- a line without its LF holds no frame

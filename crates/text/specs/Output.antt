@@ -1,13 +1,11 @@
 -- What the program writes for a text.
-use Rattle.std.specs.Prelude.{ℕ, zero, suc, Bool, true, false, List, [], ◌∷◌, ◌++◌, map, ℤ, pos, length, take}
-use Rattle.std.proofs.Math.Option.{Option, none, some}
-use Rattle.lists.specs.Search.{choose}
+use Rattle.std.specs.Prelude.{ℕ, zero, suc, List, [], ◌∷◌, ◌++◌, map, ℤ, take}
 use Rattle.types.specs.declared.Verdict.{Verdict}
 use Rattle.types.specs.declared.Verdict.TheVariants.{Satisfiable, Contradiction}
 use Rattle.types.specs.Numbers.{number_of_verdict, number_of_refusal}
-use Rattle.rules.specs.Terms.{Term, auxiliary, Proposition, block_disequality, Comparison}
+use Rattle.rules.specs.Terms.{auxiliary, block_disequality}
 use Rattle.outcome.specs.Outcome.{Outcome, outcome}
-use Rattle.tables.specs.Records.{TermRecord, PropositionRecord, term_of, proposition_of}
+use Rattle.tables.specs.Records.{term_of, proposition_of}
 use Rattle.tables.specs.Refusals.{Fault}
 use Rattle.tables.specs.Records.{or_default}
 use Rattle.text.specs.Lines.{lf, hex_of, bytes, unsigned}

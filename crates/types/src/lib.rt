@@ -1,4 +1,7 @@
 // The types of the library's answers, for all crates. specs/Numbers.antt gives the numbers of paper 01 for each case.
+
+#![tactic(auto)]
+
 ghost use Rattle.std.specs.Prelude.{◌≡◌};
 ghost use Rattle.types.specs.Numbers.{number_of_answer, number_of_refusal};
 

@@ -1,8 +1,8 @@
 -- Two roots joined, and what that says of the terms whose roots they are.
-use Rattle.std.specs.Prelude.{ℕ, ◌<◌, ◌≤◌, ◌≡◌, refl, ◌≢◌, ◌↔◌, List, ℤ, pos, neg_ℤ, ◌+ℤ◌, ◌-ℤ◌, length, get_or, set}
+use Rattle.std.specs.Prelude.{ℕ, ◌<◌, ◌≡◌, refl, ◌≢◌, ◌↔◌, List, ℤ, pos, neg_ℤ, ◌+ℤ◌, ◌-ℤ◌, length, get_or, set}
 use Rattle.std.proofs.Common.{sym, ◌∙◌, ap, arith, length-set}
 use Rattle.integers.specs.Linear.{linear, value, ‹◌›, #◌, ◌⊕◌, ◌⊖◌, ⊝◌}
-use Rattle.rules.specs.Assignments.{Placement, Holds}
+use Rattle.rules.specs.Assignments.{Placement}
 use Rattle.labels.specs.Relabel.{Relabelled}
 use Rattle.integers.specs.Within.{Within}
 use Rattle.labels.specs.Spread.{far}

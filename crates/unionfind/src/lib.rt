@@ -2,6 +2,8 @@
 // lowest term, and every path ends. `Links` says what the columns keep, `flat` which labels they stand for. Public for the
 // crates `joins`, `congruence`, `consistency` and `solver`.
 
+#![tactic(auto)]
+
 ghost use Rattle.std.specs.Prelude.{◌≡◌, ◌≢◌, ℕ, ◌+◌, ◌≤◌, ◌<◌, ℤ, ◌+ℤ◌, ◌-ℤ◌, pos, length, get_or};
 ghost use Rattle.integers.specs.Within.{Within};
 ghost use Rattle.labels.specs.Spread.{far};

@@ -1,6 +1,9 @@
 // Use lists, where congruence closure looks for joins: for each class the dereferences over it, one for each address, those to look at
 // next, and a table from addresses to dereferences. Nothing here is relied on: what it says is tested before it is used, so it promises
 // no more than ranges. Public for the crates `joins` and `congruence`.
+
+#![tactic(auto)]
+
 ghost use Rattle.std.specs.Prelude.{◌^◌, ◌<◌};
 
 use offsets::bits;

@@ -1,13 +1,13 @@
 -- Words of a byte table: numbers by their bits, and runs of bytes that a number spells.
-use Rattle.std.specs.Prelude.{ℕ, zero, suc, ◌+◌, ◌*◌, ◌/◌, ◌%◌, ◌^◌, ◌<◌, ◌≤◌, ◌-◌, max, min, ◌≡◌, refl, ◌≢◌, ◌⊎◌, Bool, true, false, not, ◌&&◌, ◌||◌, List, eqb, leb, ltb, length, get_or, set}
-use Rattle.std.proofs.Common.{sym, ◌∙◌, ap, inl, inr, ⊎_elim, mul-le-mul_right, mod-lt, length-set, shl_exact, shr-shr, pow_pos, pow-add, get_or-set_same, get_or-set_other, eqb-true, eq-eqb, ne_eqb, ltb-true, ltb-false, lt-ltb, le-ltb, leb-true, leb-false, le-leb}
+use Rattle.std.specs.Prelude.{ℕ, ◌+◌, ◌*◌, ◌/◌, ◌%◌, ◌^◌, ◌<◌, ◌≤◌, ◌-◌, max, min, ◌≡◌, refl, ◌≢◌, ◌⊎◌, Bool, true, false, not, ◌&&◌, ◌||◌, List, eqb, leb, ltb, length, get_or, set}
+use Rattle.std.proofs.Common.{sym, ◌∙◌, ap, inl, inr, ⊎_elim, mul-le-mul_right, mod-lt, length-set, shl_exact, shr-shr, pow_pos, pow-add, get_or-set_same, get_or-set_other, eqb-true, eq-eqb, ne_eqb, ltb-true, ltb-false, leb-true, leb-false, le-leb}
 use Rattle.std.proofs.Math.Nat.{zero-div, div-eq_of_lt}
 use native.Mathlib.Omega.{arith}
 use Rattle.std.specs.Int.Bits.{bit_or, bit_and, bit_xor, or_step, and_step, xor_step, or_shifted_r}
 use Rattle.std.proofs.lemmas.Nat.{or_shr, and_shr, xor_shr, or_lt, and_mask, shr_le}
 use Rattle.std.proofs.Math.ListN.{get_or-eq_default}
-use Rattle.std.proofs.Math.Pow.{pow-lt, high, low, field, mod-mod-pow}
-use Rattle.std.proofs.lemmas.Bool.{eqb-false, lt-leb}
+use Rattle.std.proofs.Math.Pow.{high, low, field, mod-mod-pow}
+use Rattle.std.proofs.lemmas.Bool.{eqb-false}
 use Rattle.lists.specs.Booleans.{and_true, false_true, or_cases, or_second}
 use Rattle.lists.specs.Filled.{same_or_not}
 use Rattle.outcome.specs.PairBits.{bit_of, bit_value, bit_value_below}

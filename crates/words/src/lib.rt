@@ -1,5 +1,8 @@
 // Words of 64 bits of a byte table, read and set at any bit, and masks: words with a bit for each number. Public for the crates
 // `marking`, `expansion`, `settling` and `placing`.
+
+#![tactic(auto)]
+
 ghost use Rattle.std.specs.Prelude.{◌≡◌, true, ◌+◌, ◌*◌, ◌/◌, ◌≤◌, ◌<◌, ◌^◌, length, get_or};
 ghost use Rattle.outcome.specs.PairBits.{bit_value};
 ghost use Rattle.pairbits.specs.Bits.{is_set};

@@ -1,5 +1,8 @@
 // Frames as lines of hexadecimal, written to a buffer from a place on; each function answers the place after what it wrote.
 // Public for the crate `driver`, which knows that the frames fit.
+
+#![tactic(auto)]
+
 ghost use Rattle.std.specs.Prelude.{◌≡◌, ◌+◌, ◌/◌, ◌%◌, ◌^◌, ◌≤◌, ◌<◌, length};
 ghost use Rattle.types.specs.declared.Verdict.TheVariants.{Satisfiable, Contradiction};
 ghost use Rattle.text.specs.Output.{line_of, verdict_frame, label_frame, label_frames, blame_if, blame_frames, answer_frame, cell_frames, refusal_frame};

@@ -1,13 +1,10 @@
 -- `columns::tell_differences` meets its contract.
-use Prim.Native.Nat.{ℕ}
-use mathlib.Core.Path.{refl, sym, ◌∙◌}
+use mathlib.Core.Path.{refl}
 use native.Mathlib.Omega.{arith}
 use borrow.Author.Rules.{rules}
-use lib.ListN.{length, length-replicate}
+use lib.ListN.{length}
 use Rattle.tables.specs.Limits.{square_small}
-use Rattle.tables.specs.Rows.{Row}
-use Rattle.tables.specs.Sets.{set_of}
-use Rattle.placing.specs.Placed.{Labelled, labelled_few, labelled_offsets, labelled_terms, labelled_sides, labelled_classes}
+use Rattle.placing.specs.Placed.{labelled_few, labelled_offsets, labelled_terms, labelled_sides, labelled_classes}
 use Rattle.columns.specs.Answered.{labelled, as_many}
 use Rattle.columns.proofs.tell_differences.Statement.{statement}
 use Rattle.columns.proofs.tell_differences.Tie as tie

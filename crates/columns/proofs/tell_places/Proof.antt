@@ -1,5 +1,5 @@
 -- `columns::tell_places` meets its contract.
-use mathlib.Core.Path.{refl, sym, ◌∙◌}
+use mathlib.Core.Path.{sym, ◌∙◌}
 use native.Mathlib.Omega.{arith}
 use Rattle.tables.specs.Sets.{set_of}
 use Rattle.columns.specs.Meaning.{table_given, side_columns, pairs_told}

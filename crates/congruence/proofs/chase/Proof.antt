@@ -5,7 +5,6 @@ use mathlib.Core.Bool.{true}
 use native.Mathlib.Omega.{arith}
 use lib.ListN.{length}
 use borrow.Author.Rules.{rules}
-use borrow.Author.Tests.{not-true, not-false}
 use Rattle.tables.specs.Rows.{term_in}
 use Rattle.joins.specs.Meeting.{Chased, chased_start, chased_labels, chased_long, chased_then}
 use Rattle.congruence.proofs.chase.Statement.{statement}

@@ -1,6 +1,5 @@
 -- `congruence::close` meets its contract.
 use lib.ListN.{length}
-use borrow.Author.Tests.{not-true, not-false}
 use Rattle.tables.specs.Rows.{term_in}
 use Rattle.joins.specs.Meeting.{chased_labels}
 use Rattle.congruence.specs.Closing.{chased_clash, closing_then}

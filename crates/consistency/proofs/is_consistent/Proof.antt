@@ -1,5 +1,4 @@
-use mathlib.Core.Path.{◌≡◌, sym, ◌∙◌}
-use borrow.Author.Tests.{not-true, not-false}
+use mathlib.Core.Path.{sym, ◌∙◌}
 use Rattle.tables.specs.Sets.{set_of}
 use Rattle.congruence.specs.Settling.{closing_columns}
 use Rattle.consistency.specs.Live.{fresh_live, live_labels, equalities_live, equalities_off}

@@ -1,7 +1,6 @@
 -- `expansion::copy_row` meets its contract. The invariant: the columns before 64 * w are copied.
 use Prim.Native.Nat.{◌-◌}
 use native.Mathlib.Omega.{arith}
-use mathlib.Core.Path.{◌∙◌}
 use Rattle.marking.specs.Marks.{product_small}
 use Rattle.expansion.specs.Rows.{Copying, copying_start, copying_more, copying_done}
 use Rattle.expansion.proofs.copy_row.Statement.{statement}

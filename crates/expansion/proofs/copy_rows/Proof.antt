@@ -1,7 +1,7 @@
 -- `expansion::copy_rows` meets its contract. The invariant: the rows of the terms before i are done.
-use Prim.Native.Nat.{◌+◌, ◌-◌}
+use Prim.Native.Nat.{◌-◌}
 use native.Mathlib.Omega.{arith}
-use mathlib.Core.Path.{◌≡◌, sym, ◌∙◌}
+use mathlib.Core.Path.{sym}
 use Rattle.marking.specs.Marks.{room_kept}
 use Rattle.expansion.specs.Expand.{ExpandedIn, GuestRows, guests_start, guests_skip, guests_more, guests_done}
 use borrow.Author.Rules.{rules}

@@ -1,6 +1,5 @@
 -- `expansion::expand_members` meets its contract. The invariant: the rows of the homes of the class before t are done.
 use Prim.Native.Nat.{◌-◌}
-use mathlib.Core.Path.{◌≡◌, sym, ◌∙◌}
 use native.Mathlib.Omega.{arith}
 use Rattle.marking.specs.Marks.{room_kept}
 use Rattle.expansion.specs.Expand.{ClassLoop, class_start, class_more, class_skip, class_done, class_set_kept}

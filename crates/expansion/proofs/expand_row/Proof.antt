@@ -2,7 +2,6 @@
 use Prim.Native.Nat.{ℕ}
 use mathlib.Core.Path.{refl}
 use lib.ListN.{length-replicate}
-use native.Mathlib.Omega.{arith}
 use Rattle.marking.specs.Marks.{room_kept}
 use Rattle.marking.specs.Rows.{own_below}
 use Rattle.expansion.specs.Expand.{class_covered, class_expanded, reach_rest, rest_below, row_expanded}

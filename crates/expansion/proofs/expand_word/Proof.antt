@@ -1,5 +1,5 @@
 -- `expansion::expand_word` meets its contract. The invariant: the terms whose homes are in the bits before b are done.
-use Prim.Native.Nat.{◌+◌, ◌*◌, ◌-◌}
+use Prim.Native.Nat.{◌-◌}
 use native.Mathlib.Omega.{arith}
 use Rattle.marking.specs.Marks.{room_kept}
 use Rattle.expansion.specs.Expand.{WordLoop, word_done, word_first, word_next}

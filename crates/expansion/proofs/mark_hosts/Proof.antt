@@ -1,7 +1,6 @@
 -- `expansion::mark_hosts` meets its contract. The invariant: the homes of the terms before t are in the mask.
 use Prim.Native.Nat.{◌-◌}
 use native.Mathlib.Omega.{arith}
-use mathlib.Core.Path.{◌∙◌}
 use Rattle.expansion.specs.Expand.{Hosts, hosts_none, hosts_skip, hosts_more, hosts_done}
 use borrow.Author.Rules.{rules}
 use Rattle.expansion.proofs.mark_hosts.Statement.{statement}

@@ -1,7 +1,7 @@
 use Rattle.integers.specs.Within.{Within}
 use Rattle.labels.specs.Spread.{far}
 use Rattle.joins.specs.Meeting.{address_fits, offset_fits, far_fits}
-use mathlib.Core.Path.{◌≡◌, refl, sym, ◌∙◌}
+use mathlib.Core.Path.{refl, ◌∙◌}
 use mir.Syntax.{w64}
 use mir.ValLaws.{to_z-of_z}
 use borrow.Author.Rules.{rules, sfits_of}

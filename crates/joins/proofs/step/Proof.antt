@@ -3,7 +3,6 @@ use mathlib.Core.Path.{refl}
 use native.Mathlib.Omega.{arith}
 use lib.ListN.{length}
 use borrow.Author.Rules.{rules}
-use borrow.Author.Tests.{not-false}
 use Rattle.tables.specs.Rows.{term_in}
 use Rattle.lastlook.specs.Addresses.{names_one}
 use Rattle.joins.specs.Labels.{unchanged_labels, unchanged_then}

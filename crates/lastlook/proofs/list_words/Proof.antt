@@ -3,7 +3,7 @@ use native.Mathlib.Omega.{arith}
 use Prim.Native.Nat.{◌≤◌, ◌-◌}
 use mathlib.Core.Path.{sym, ◌∙◌}
 use lib.ListN.{length}
-use borrow.Author.Tests.{eqb-true, not-false}
+use borrow.Author.Tests.{eqb-true}
 use Rattle.lastlook.specs.Addresses.{class_read}
 use Rattle.lastlook.proofs.list_words.Statement.{statement}
 use Rattle.lastlook.proofs.list_words.Tie as tie

@@ -2,7 +2,7 @@
 use mathlib.Core.Path.{sym, ◌∙◌}
 use native.Mathlib.Omega.{arith}
 use borrow.Author.Rules.{rules, sfits_of}
-use borrow.Author.Tests.{eqb-true, eqb-false, not-true, not-false}
+use borrow.Author.Tests.{eqb-true, eqb-false}
 use Rattle.lastlook.specs.Addresses.{signed_same, apart, meeting_by, inner_below}
 use Rattle.lastlook.proofs.same_address.Statement.{statement}
 use Rattle.lastlook.proofs.same_address.Tie as tie

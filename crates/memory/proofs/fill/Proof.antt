@@ -3,7 +3,6 @@ use Prim.Native.Nat.{◌-◌}
 use mathlib.Core.Path.{refl}
 use lib.ListN.{length}
 use native.Mathlib.Omega.{arith}
-use borrow.Author.Rules.{rules}
 use Rattle.lists.specs.Filled.{Filled, filled_none, filled_more}
 use Rattle.memory.specs.Cells.{filled_with}
 use Rattle.memory.proofs.fill.Statement.{statement}

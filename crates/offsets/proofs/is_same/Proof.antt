@@ -1,8 +1,6 @@
 use Rattle.offsets.specs.Fits.{same_bits}
 use Rattle.offsets.proofs.is_same.Statement.{statement}
 use Rattle.offsets.proofs.is_same.Tie as tie
-use Rattle.offsets.proofs.is_same.Reads as reads
-use Rattle.offsets.proofs.is_same.Lts as lts
 
 returns : tie.Need-returns
 returns c = same_bits c.args.a c.args.b c.ranges.a c.ranges.b

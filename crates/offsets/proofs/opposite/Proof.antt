@@ -3,8 +3,6 @@ use mir.Syntax.{w64}
 use mir.ValLaws.{to_z-of_z}
 use Rattle.offsets.proofs.opposite.Statement.{statement}
 use Rattle.offsets.proofs.opposite.Tie as tie
-use Rattle.offsets.proofs.opposite.Reads as reads
-use Rattle.offsets.proofs.opposite.Lts as lts
 
 sub-result : tie.Need-overflow_sub-result
 sub-result c = rw (to_z-of_z w64 c.args.a c.ranges.a, +ℤ_idl) c.requires

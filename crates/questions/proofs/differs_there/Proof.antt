@@ -1,7 +1,6 @@
 -- `questions::differs_there` meets its contract.
 use mathlib.Core.Path.{sym, ◌∙◌}
 use borrow.Author.Rules.{rules}
-use borrow.Author.Tests.{not-true, not-false}
 use Rattle.questions.proofs.differs_there.Statement.{statement}
 use Rattle.questions.proofs.differs_there.Tie as tie
 

@@ -1,7 +1,6 @@
 -- `settling::look_from` meets its contract. The invariant: the leads before y are done.
 use Prim.Native.Nat.{◌-◌}
 use Rattle.settling.specs.Settle.{kept_grown, setting, walk_done, walk_more, walk_start, Walking, With, with_grown}
-use borrow.Author.Rules.{rules}
 use native.Mathlib.Omega.{arith}
 use Rattle.settling.proofs.look_from.Statement.{statement}
 use Rattle.settling.proofs.look_from.Tie as tie

@@ -1,7 +1,6 @@
 -- `settling::look_homes` meets its contract. The invariant: the leads before x are done.
 use Prim.Native.Nat.{◌-◌}
 use Rattle.settling.specs.Settle.{home_grown, kept_grown, setting, walk_done, walk_more, walk_start, Walking, WithHome}
-use borrow.Author.Rules.{rules}
 use native.Mathlib.Omega.{arith}
 use Rattle.settling.proofs.look_homes.Statement.{statement}
 use Rattle.settling.proofs.look_homes.Tie as tie

@@ -2,7 +2,6 @@
 use Rattle.lists.specs.Booleans.{false_true}
 use Rattle.settling.specs.Settle.{pair_looked, pair_off}
 use borrow.Author.Rules.{rules}
-use borrow.Author.Tests.{not-false, not-true}
 use mathlib.Core.Path.{sym, ◌∙◌}
 use native.Mathlib.Omega.{arith}
 use Rattle.settling.proofs.look_pair.Statement.{statement}

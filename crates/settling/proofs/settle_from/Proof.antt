@@ -3,9 +3,7 @@ use Rattle.distances.specs.Distances.{indexed_none}
 use Rattle.marking.specs.Marks.{zero_cells}
 use Rattle.settling.specs.Settle.{settling_after, settling_first}
 use borrow.Author.Rules.{rules}
-use borrow.Author.Tests.{not-true}
 use mathlib.Core.Path.{refl}
-use native.Mathlib.Omega.{arith}
 use Rattle.settling.proofs.settle_from.Statement.{statement}
 use Rattle.settling.proofs.settle_from.Tie as tie
 

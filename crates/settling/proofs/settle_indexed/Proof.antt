@@ -1,7 +1,6 @@
 -- `settling::settle_indexed` meets its contract.
 use borrow.Author.Rules.{rules}
 use mathlib.Core.Path.{refl}
-use native.Mathlib.Omega.{arith}
 use Rattle.settling.proofs.settle_indexed.Statement.{statement}
 use Rattle.settling.proofs.settle_indexed.Tie as tie
 

@@ -1,7 +1,6 @@
 -- `settling::sweep` meets its contract.
 use borrow.Author.Rules.{rules}
 use mathlib.Core.Path.{refl}
-use native.Mathlib.Omega.{arith}
 use Rattle.settling.proofs.sweep.Statement.{statement}
 use Rattle.settling.proofs.sweep.Tie as tie
 

@@ -1,8 +1,6 @@
 -- `settling::sweep_all` meets its contract. The invariant: the last look set something, or all is closed.
 use Rattle.settling.specs.Settle.{left, left_less, Looking, looking_done, looking_more, looking_start, setting}
-use borrow.Author.Rules.{rules}
 use mathlib.Core.Path.{sym, ◌∙◌}
-use native.Mathlib.Omega.{arith}
 use Rattle.settling.proofs.sweep_all.Statement.{statement}
 use Rattle.settling.proofs.sweep_all.Tie as tie
 

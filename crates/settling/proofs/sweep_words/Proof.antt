@@ -4,7 +4,7 @@ use Rattle.lists.specs.Booleans.{and_true}
 use Rattle.marking.specs.Marks.{product_small}
 use Rattle.settling.specs.Settle.{setting, step_long, step_then, Words, words_done, words_left, words_more, words_start}
 use borrow.Author.Rules.{rules}
-use mathlib.Core.Path.{◌≡◌, ◌∙◌}
+use mathlib.Core.Path.{◌∙◌}
 use native.Mathlib.Omega.{arith}
 use Rattle.settling.proofs.sweep_words.Statement.{statement}
 use Rattle.settling.proofs.sweep_words.Tie as tie

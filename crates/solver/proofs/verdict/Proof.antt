@@ -5,7 +5,6 @@ use native.Mathlib.Omega.{arith}
 use lib.ListN.{replicate, get_or-replicate}
 use lib.Seq.{length-take-le}
 use borrow.Author.Rules.{rules}
-use borrow.Author.Tests.{not-true, not-false}
 use Rattle.types.specs.declared.Acceptance.TheVariants.{Accepted}
 use Rattle.tables.specs.Limits.{most}
 use Rattle.tables.specs.TableFaults.{Tables, tables_of, tables_fault, acceptance, Sized}

@@ -3,9 +3,6 @@ use Rattle.pairbits.specs.Bits.{is_set_zero}
 use borrow.Author.Rules.{rules}
 use Rattle.words.proofs.bit_at.Statement.{statement}
 use Rattle.words.proofs.bit_at.Tie as tie
-use Rattle.words.proofs.bit_at.Reads as reads
-use Rattle.words.proofs.bit_at.Lts as lts
-use Rattle.pairbits.proofs.test_bit.Reads as test-bit-reads
 
 -- src/lib.rt:48:9
 returns : tie.Need-returns-then-bytes-i

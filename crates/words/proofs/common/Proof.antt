@@ -2,10 +2,6 @@ use Rattle.words.specs.Words.{common_is}
 use borrow.Author.Rules.{rules}
 use Rattle.words.proofs.common.Statement.{statement}
 use Rattle.words.proofs.common.Tie as tie
-use Rattle.words.proofs.common.Reads as reads
-use Rattle.words.proofs.common.Lts as lts
-use Rattle.words.proofs.mask_word.Reads as mask-word-reads
-use Rattle.words.proofs.word_at.Reads as word-at-reads
 
 -- src/lib.rt:211:20
 add-word-at : tie.Need-overflow_add-start

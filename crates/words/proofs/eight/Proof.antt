@@ -2,9 +2,6 @@ use Rattle.words.specs.Words.{spells_halves}
 use borrow.Author.Rules.{rules}
 use Rattle.words.proofs.eight.Statement.{statement}
 use Rattle.words.proofs.eight.Tie as tie
-use Rattle.words.proofs.eight.Reads as reads
-use Rattle.words.proofs.eight.Lts as lts
-use Rattle.words.proofs.four.Reads as four-reads
 
 -- src/lib.rt:41:17
 add-four : tie.Need-overflow_add-k

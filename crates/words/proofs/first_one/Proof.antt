@@ -1,10 +1,8 @@
-use Prim.Native.Nat.{◌-◌, ◌+◌}
+use Prim.Native.Nat.{◌-◌}
 use native.Mathlib.Omega.{arith}
 use Rattle.words.specs.Words.{Above, above_none, above_more, lowest_hit, lowest_past}
 use Rattle.words.proofs.first_one.Statement.{statement}
 use Rattle.words.proofs.first_one.Tie as tie
-use Rattle.words.proofs.first_one.Reads as reads
-use Rattle.words.proofs.first_one.Lts as lts
 
 abbrev invariant-loop : tie.invariant-loop-b
 invariant-loop word b₀ b = Above word b

@@ -2,9 +2,6 @@ use Rattle.words.specs.Words.{spells_halves}
 use borrow.Author.Rules.{rules}
 use Rattle.words.proofs.four.Statement.{statement}
 use Rattle.words.proofs.four.Tie as tie
-use Rattle.words.proofs.four.Reads as reads
-use Rattle.words.proofs.four.Lts as lts
-use Rattle.words.proofs.two.Reads as two-reads
 
 -- src/lib.rt:34:16
 add-two : tie.Need-overflow_add-k

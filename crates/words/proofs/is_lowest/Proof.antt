@@ -9,8 +9,6 @@ use Rattle.words.specs.Words.{above_zero, lowest_hit}
 use borrow.Author.Rules.{rules}
 use Rattle.words.proofs.is_lowest.Statement.{statement}
 use Rattle.words.proofs.is_lowest.Tie as tie
-use Rattle.words.proofs.is_lowest.Reads as reads
-use Rattle.words.proofs.is_lowest.Lts as lts
 
 -- src/lib.rt:203:17
 shl-if1 : tie.Need-overflow_shl-count

@@ -5,9 +5,6 @@ use native.Mathlib.Omega.{arith}
 use Rattle.words.specs.Words.{Spells, spells_none, spells_more}
 use Rattle.words.proofs.last_word.Statement.{statement}
 use Rattle.words.proofs.last_word.Tie as tie
-use Rattle.words.proofs.last_word.Reads as reads
-use Rattle.words.proofs.last_word.Lts as lts
-use Rattle.words.proofs.bit_at.Reads as bit-at-reads
 
 abbrev invariant-loop : tie.invariant-loop-b
 invariant-loop bytes at word₀ b₀ word b = (b ≤ 64) × Spells bytes at b word

@@ -2,10 +2,6 @@ use Rattle.words.specs.Words.{lowest_none}
 use borrow.Author.Rules.{rules}
 use Rattle.words.proofs.lowest.Statement.{statement}
 use Rattle.words.proofs.lowest.Tie as tie
-use Rattle.words.proofs.lowest.Reads as reads
-use Rattle.words.proofs.lowest.Lts as lts
-use Rattle.words.proofs.first_one.Reads as first-one-reads
-use Rattle.words.proofs.is_lowest.Reads as is-lowest-reads
 
 -- src/lib.rt:214:9
 returns : tie.Need-returns-then-word-eq0

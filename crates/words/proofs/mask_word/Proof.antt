@@ -4,9 +4,6 @@ use native.Mathlib.Omega.{arith}
 use borrow.Author.Rules.{rules}
 use Rattle.words.proofs.mask_word.Statement.{statement}
 use Rattle.words.proofs.mask_word.Tie as tie
-use Rattle.words.proofs.mask_word.Reads as reads
-use Rattle.words.proofs.mask_word.Lts as lts
-use Rattle.words.proofs.word.Reads as word-reads
 
 -- src/lib.rt:172:21
 mul-word : tie.Need-offset_bounds-mask-w

@@ -2,9 +2,6 @@ use Rattle.words.specs.Words.{spells_byte}
 use borrow.Author.Rules.{rules}
 use Rattle.words.proofs.one.Statement.{statement}
 use Rattle.words.proofs.one.Tie as tie
-use Rattle.words.proofs.one.Reads as reads
-use Rattle.words.proofs.one.Lts as lts
-use Rattle.words.proofs.wide.Reads as wide-reads
 
 -- src/lib.rt:27:10
 shared-slice-read-wide : tie.Need-bounds-bytes-k

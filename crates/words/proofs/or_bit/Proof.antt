@@ -2,9 +2,6 @@ use Rattle.words.specs.Words.{ored_even, ored_past, ored_odd}
 use borrow.Author.Rules.{rules}
 use Rattle.words.proofs.or_bit.Statement.{statement}
 use Rattle.words.proofs.or_bit.Tie as tie
-use Rattle.words.proofs.or_bit.Reads as reads
-use Rattle.words.proofs.or_bit.Lts as lts
-use Rattle.pairbits.proofs.set_bit.Reads as set-bit-reads
 
 -- src/lib.rt:118:9
 shr-if1 : tie.Need-overflow_shr-x

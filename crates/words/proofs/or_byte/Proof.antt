@@ -3,8 +3,6 @@ use Rattle.words.specs.Words.{ored_byte, ored_low}
 use borrow.Author.Rules.{rules}
 use Rattle.words.proofs.or_byte.Statement.{statement}
 use Rattle.words.proofs.or_byte.Tie as tie
-use Rattle.words.proofs.or_byte.Reads as reads
-use Rattle.words.proofs.or_byte.Lts as lts
 
 -- src/lib.rt:86:16
 slice-read-bytes : tie.Need-bounds-bytes-k

@@ -2,9 +2,6 @@ use Rattle.words.specs.Words.{ored_halves}
 use borrow.Author.Rules.{rules}
 use Rattle.words.proofs.or_eight.Statement.{statement}
 use Rattle.words.proofs.or_eight.Tie as tie
-use Rattle.words.proofs.or_eight.Reads as reads
-use Rattle.words.proofs.or_eight.Lts as lts
-use Rattle.words.proofs.or_four.Reads as or-four-reads
 
 -- src/lib.rt:109:5
 or-four-requires : tie.Need-or_four-requires

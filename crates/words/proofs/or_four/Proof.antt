@@ -2,9 +2,6 @@ use Rattle.words.specs.Words.{ored_halves}
 use borrow.Author.Rules.{rules}
 use Rattle.words.proofs.or_four.Statement.{statement}
 use Rattle.words.proofs.or_four.Tie as tie
-use Rattle.words.proofs.or_four.Reads as reads
-use Rattle.words.proofs.or_four.Lts as lts
-use Rattle.words.proofs.or_two.Reads as or-two-reads
 
 -- src/lib.rt:101:5
 or-two-requires : tie.Need-or_two-requires

@@ -4,9 +4,6 @@ use native.Mathlib.Omega.{arith}
 use Rattle.words.specs.Words.{Ored, ored_none, ored_both}
 use Rattle.words.proofs.or_last.Statement.{statement}
 use Rattle.words.proofs.or_last.Tie as tie
-use Rattle.words.proofs.or_last.Reads as reads
-use Rattle.words.proofs.or_last.Lts as lts
-use Rattle.words.proofs.or_bit.Reads as or-bit-reads
 
 abbrev invariant-loop : tie.invariant-loop-b
 invariant-loop bytes₀ at x b₀ bytes b = (b ≤ 64) × Ored bytes₀ at b x bytes

@@ -2,9 +2,6 @@ use Rattle.words.specs.Words.{ored_halves}
 use borrow.Author.Rules.{rules}
 use Rattle.words.proofs.or_two.Statement.{statement}
 use Rattle.words.proofs.or_two.Tie as tie
-use Rattle.words.proofs.or_two.Reads as reads
-use Rattle.words.proofs.or_two.Lts as lts
-use Rattle.words.proofs.or_byte.Reads as or-byte-reads
 
 -- src/lib.rt:93:5
 or-byte-requires : tie.Need-or_byte-requires

@@ -2,8 +2,6 @@ use Rattle.words.specs.Words.{put_bit}
 use borrow.Author.Rules.{rules}
 use Rattle.words.proofs.put.Statement.{statement}
 use Rattle.words.proofs.put.Tie as tie
-use Rattle.words.proofs.put.Reads as reads
-use Rattle.words.proofs.put.Lts as lts
 
 -- src/lib.rt:177:15
 mul-mask : tie.Need-offset_bounds-mask-w

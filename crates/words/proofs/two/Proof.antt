@@ -2,9 +2,6 @@ use Rattle.words.specs.Words.{spells_halves}
 use borrow.Author.Rules.{rules}
 use Rattle.words.proofs.two.Statement.{statement}
 use Rattle.words.proofs.two.Tie as tie
-use Rattle.words.proofs.two.Reads as reads
-use Rattle.words.proofs.two.Lts as lts
-use Rattle.words.proofs.one.Reads as one-reads
 
 -- src/lib.rt:34:16
 add-one : tie.Need-overflow_add-k

@@ -5,11 +5,6 @@ use Rattle.words.specs.Words.{spells_inside}
 use borrow.Author.Rules.{rules}
 use Rattle.words.proofs.word_at.Statement.{statement}
 use Rattle.words.proofs.word_at.Tie as tie
-use Rattle.words.proofs.word_at.Reads as reads
-use Rattle.words.proofs.word_at.Lts as lts
-use Rattle.words.proofs.eight.Reads as eight-reads
-use Rattle.words.proofs.last_word.Reads as last-word-reads
-use Rattle.words.proofs.one.Reads as one-reads
 
 -- src/lib.rt:79:23
 add-if1 : tie.Need-overflow_add-k

@@ -1,7 +1,7 @@
 -- `writer::put_cells` meets its contract.
 use Prim.Native.Nat.{◌+◌, ◌-◌, ◌≤◌}
 use native.Mathlib.Omega.{arith}
-use lib.ListN.{length, get_or, take, drop, length-append}
+use lib.ListN.{length, get_or, drop, length-append}
 use Rattle.text.specs.Output.{cell_frames}
 use Rattle.writer.specs.Appended.{Remaining, remaining_start, remaining_next, remaining_end, remaining_fits}
 use Rattle.writer.specs.Frames.{cell_frame, cells_next, cells_end}

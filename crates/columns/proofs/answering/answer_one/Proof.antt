@@ -1,12 +1,9 @@
 -- `columns::answering::answer_one` meets its contract.
 use mathlib.Core.Path.{◌∙◌, ap}
 use native.Mathlib.Omega.{arith}
-use lib.IntN.{pos}
-use lib.ListN.{get_or}
 use borrow.Author.Rules.{rules}
 use Rattle.types.specs.declared.QuestionRecord.{QuestionRecord}
-use Rattle.tables.specs.Rows.{question_in}
-use Rattle.tables.specs.QuestionTable.{asked_below, asked}
+use Rattle.tables.specs.QuestionTable.{asked_below}
 use Rattle.columns.proofs.answering.answer_one.Statement.{statement}
 use Rattle.columns.proofs.answering.answer_one.Tie as tie
 

@@ -5,7 +5,6 @@ use mathlib.Core.Bool.{true}
 use native.Mathlib.Omega.{arith}
 use lib.ListN.{length}
 use borrow.Author.Rules.{rules}
-use borrow.Author.Tests.{not-true, not-false}
 use Rattle.tables.specs.Sets.{set_of}
 use Rattle.consistency.specs.Live.{Equalities, equalities_start, equalities_next, equalities_live, advanced_off}
 use Rattle.consistency.proofs.equalities.join_equalities.Statement.{statement}

@@ -1,6 +1,6 @@
 -- `distances::pairs::is_paired` meets its contract.
 use Rattle.std.proofs.Common.{sym, ◌∙◌, rules}
-use borrow.Author.Tests.{not-true, not-false}
+use borrow.Author.Tests.{not-false}
 use Rattle.lists.specs.Booleans.{false_true}
 use Rattle.distances.proofs.pairs.is_paired.Statement.{statement}
 use Rattle.distances.proofs.pairs.is_paired.Tie as tie

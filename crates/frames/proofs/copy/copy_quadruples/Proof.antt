@@ -1,7 +1,6 @@
 -- `frames::copy::copy_quadruples` meets its contract: the rows passed are copied (`Copying`).
 use Prim.Native.Nat.{◌-◌}
 use native.Mathlib.Omega.{arith}
-use borrow.Author.Rules.{rules}
 use Rattle.frames.specs.Copying.{Copying, copying_none, copying_more, copying_all}
 use Rattle.frames.proofs.copy.copy_quadruples.Statement.{statement}
 use Rattle.frames.proofs.copy.copy_quadruples.Tie as tie

@@ -1,5 +1,4 @@
 -- `lines::line::judge_line` meets its contract: a line longer than the longest frame holds none; else the decoded bytes say which frame it is.
-use borrow.Author.Tests.{not-true, not-false}
 use mathlib.Core.Path.{sym}
 use native.Mathlib.Omega.{arith}
 use lib.Seq.{length-take-le}

@@ -1,5 +1,5 @@
 -- `marking::base::none_apart` meets its contract. The invariant: the words before w are 0.
-use Rattle.std.proofs.Common.{◌+◌, ◌-◌, ◌/◌, ◌≤◌, refl, arith, rules}
+use Rattle.std.proofs.Common.{◌+◌, ◌-◌, ◌/◌, ◌≤◌, refl, arith}
 use Rattle.lists.specs.Booleans.{false_true}
 use Rattle.marking.specs.Classes.{zero_more, zero_none, zero_start, ZeroWords}
 use Rattle.marking.specs.Marks.{product_small}

@@ -1,6 +1,5 @@
 -- `marking::between::mark_if` meets its contract.
 use Rattle.std.proofs.Common.{sym, ◌∙◌, arith, rules}
-use borrow.Author.Tests.{not-true, not-false}
 use Rattle.lists.specs.Booleans.{false_true}
 use Rattle.points.specs.Places.{here_true, true_here}
 use Rattle.marking.specs.Marks.{adds_none, adds_as, Both}

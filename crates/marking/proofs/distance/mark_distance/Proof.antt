@@ -1,6 +1,4 @@
 -- `marking::distance::mark_distance` meets its contract.
-use Rattle.std.proofs.Common.{◌∙◌, rules}
-use borrow.Author.Tests.{not-true}
 use Rattle.marking.proofs.distance.mark_distance.Statement.{statement}
 use Rattle.marking.proofs.distance.mark_distance.Tie as tie
 

@@ -1,5 +1,5 @@
 -- `marking::far::far_selves` meets its contract. The invariant: the words before w are stored.
-use Rattle.std.proofs.Common.{◌≡◌, ◌+◌, ◌-◌, ◌*◌, ◌≤◌, sym, ◌∙◌, arith, rules}
+use Rattle.std.proofs.Common.{◌≡◌, ◌-◌, ◌*◌, ◌≤◌, sym, ◌∙◌, arith}
 use Rattle.marking.specs.Marks.{product_small}
 use Rattle.marking.specs.Far.{FarSelves, far_none, far_more}
 use Rattle.marking.proofs.far.far_selves.Statement.{statement}

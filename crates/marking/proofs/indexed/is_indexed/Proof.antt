@@ -1,6 +1,6 @@
 -- `marking::indexed::is_indexed` meets its contract.
 use Rattle.std.proofs.Common.{sym, refl, ◌∙◌, arith, rules}
-use borrow.Author.Tests.{not-true, not-false}
+use borrow.Author.Tests.{not-true}
 use Rattle.lists.specs.Booleans.{false_true}
 use Rattle.marking.proofs.indexed.is_indexed.Statement.{statement}
 use Rattle.marking.proofs.indexed.is_indexed.Tie as tie

@@ -1,6 +1,5 @@
 -- `marking::indexed::mark_candidate` meets its contract.
-use Rattle.std.proofs.Common.{sym, ◌∙◌, arith, rules, eqb-true}
-use borrow.Author.Tests.{eqb-false, not-false}
+use Rattle.std.proofs.Common.{arith, rules}
 use Rattle.marking.specs.Marks.{adds_none, adds_as}
 use Rattle.marking.specs.Pairs.{Candidate, PairsWith}
 use Rattle.marking.proofs.indexed.mark_candidate.Statement.{statement}

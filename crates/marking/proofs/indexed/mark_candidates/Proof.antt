@@ -1,7 +1,7 @@
 -- `marking::indexed::mark_candidates` meets its contract. The invariant: the entries before c are done.
-use Rattle.std.proofs.Common.{◌≡◌, ◌-◌, ◌≤◌, ◌⊎◌, refl, inl, inr, arith, rules}
+use Rattle.std.proofs.Common.{◌≡◌, ◌-◌, ◌≤◌, ◌⊎◌, refl, inl, inr, arith}
 use Rattle.marking.specs.Marks.{room_kept}
-use Rattle.marking.specs.Pairs.{Candidate, Span, Spanning, spanning_start, spanning_more, spanning_done}
+use Rattle.marking.specs.Pairs.{Candidate, Spanning, spanning_start, spanning_more, spanning_done}
 use Rattle.marking.proofs.indexed.mark_candidates.Statement.{statement}
 use Rattle.marking.proofs.indexed.mark_candidates.Tie as tie
 

@@ -1,5 +1,5 @@
 -- `marking::indexed::start_of` meets its contract.
-use Rattle.std.proofs.Common.{◌≡◌, sym, arith, rules}
+use Rattle.std.proofs.Common.{sym, arith, rules}
 use lib.ListN.{get_or-eq_default}
 use Rattle.marking.proofs.indexed.start_of.Statement.{statement}
 use Rattle.marking.proofs.indexed.start_of.Tie as tie

@@ -1,5 +1,5 @@
 -- `marking::known::known_place` meets its contract. The walk goes on to terms at or before n.
-use Rattle.std.proofs.Common.{◌-◌, ◌≤◌, sym, refl, ◌∙◌, arith, rules}
+use Rattle.std.proofs.Common.{◌-◌, ◌≤◌, sym, refl, ◌∙◌, arith}
 use Rattle.lists.specs.Booleans.{false_true}
 use Rattle.points.specs.Places.{slot_link}
 use Rattle.marking.specs.Known.{known_at}

@@ -1,5 +1,5 @@
 -- `marking::single::mark_single` meets its contract.
-use Rattle.std.proofs.Common.{sym, arith, rules}
+use Rattle.std.proofs.Common.{arith, rules}
 use Rattle.marking.specs.Single.{single_both, single_empty_left, single_empty_right, single_far, single_not}
 use Rattle.marking.proofs.single.mark_single.Statement.{statement}
 use Rattle.marking.proofs.single.mark_single.Tie as tie

@@ -1,5 +1,5 @@
 -- `points::homes::first_there` meets its contract. The invariant: no term before j is at the place.
-use Rattle.std.proofs.Common.{◌-◌, ◌<◌, sym, refl, ◌∙◌, arith, rules}
+use Rattle.std.proofs.Common.{◌-◌, ◌<◌, sym, refl, ◌∙◌, arith}
 use Rattle.points.specs.Places.{here_true, slot_link, slot_start, true_here}
 use Rattle.points.specs.Homes.{Passed, passed_start, passed_more}
 use Rattle.lists.specs.Booleans.{false_true}

@@ -1,7 +1,6 @@
 -- The record is malformed, or names a term that is not listed, or neither.
 use mathlib.Core.Path.{sym, ◌∙◌}
 use borrow.Author.Rules.{rules}
-use borrow.Author.Tests.{not-true, not-false}
 use Rattle.tables.specs.Refusals.{proposition_fault, proposition_name_fault}
 use Rattle.refusals.specs.Fields.{not_formed, formed}
 use Rattle.refusals.proofs.propositions.judge_proposition.Statement.{statement}

@@ -3,7 +3,6 @@ use mathlib.Core.Path.{◌≡◌, sym, ◌∙◌}
 use mir.Syntax.{w64}
 use mir.ValLaws.{to_z-of_z}
 use borrow.Author.Rules.{rules, sfits_of}
-use borrow.Author.Tests.{not-true, not-false}
 use Rattle.lists.specs.Search.{is_some}
 use Rattle.tables.specs.Records.{question_of}
 use Rattle.tables.specs.Refusals.{question_fault, question_name_fault}

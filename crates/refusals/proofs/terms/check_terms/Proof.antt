@@ -41,7 +41,7 @@ later c =
     let s = c in
     let e = c.first_own_fault-found.ensures in
     elim c.match-found.branch [
-      in-Refused+else-fault-repeat w ↦ later_fault (own s.before.before.before) (again s.before.before.before) AtomListedTwice (count s.before.before.before) e w.in-Refused.is (rw c.first_repeat-repeat.ensures at w.if-fault-repeat.false)
+      | in-Refused+else-fault-repeat w ↦ later_fault (own s.before.before.before) (again s.before.before.before) AtomListedTwice (count s.before.before.before) e w.in-Refused.is (rw c.first_repeat-repeat.ensures at w.if-fault-repeat.false)
       | in_default w ↦ later_clear (own s.before.before.before) (again s.before.before.before) AtomListedTwice (count s.before.before.before) e w.in_default.is
     ]
 

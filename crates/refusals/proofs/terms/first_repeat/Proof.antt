@@ -1,5 +1,5 @@
 -- Up to i no record lists an atom again and the atoms have their bits set, and up to j none has the atom of record i.
-use Prim.Native.Nat.{ℕ, ◌+◌, ◌≤◌, ◌<◌, ◌-◌}
+use Prim.Native.Nat.{ℕ, ◌≤◌, ◌<◌, ◌-◌}
 use mathlib.Core.Path.{◌≡◌, sym, ap, ◌∙◌}
 use mathlib.Core.Bool.{false}
 use native.Mathlib.Omega.{arith}
@@ -10,7 +10,7 @@ use Rattle.tables.specs.Records.{TermRecord, is_same_atom}
 use Rattle.tables.specs.Rows.{term_in}
 use Rattle.refusals.specs.FirstFault.{place_or, Clear, starts, passes, first_found, first_clear}
 use Rattle.refusals.specs.Terms.{repeat_fault_at, repeats, no_repeat}
-use Rattle.refusals.specs.Listed.{Noted, Listed, listed_none, listed_more, unlisted}
+use Rattle.refusals.specs.Listed.{Listed, listed_none, listed_more, unlisted}
 use Rattle.refusals.proofs.terms.first_repeat.Statement.{statement}
 use Rattle.refusals.proofs.terms.first_repeat.Tie as tie
 

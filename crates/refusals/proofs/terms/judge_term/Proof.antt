@@ -1,7 +1,6 @@
 -- The record is malformed, or a dereference that names no earlier term, or neither.
 use mathlib.Core.Path.{sym, ◌∙◌}
 use borrow.Author.Rules.{rules}
-use borrow.Author.Tests.{not-true, not-false}
 use Rattle.refusals.specs.Fields.{not_formed, formed}
 use Rattle.refusals.specs.Terms.{own_fault}
 use Rattle.refusals.proofs.terms.judge_term.Statement.{statement}

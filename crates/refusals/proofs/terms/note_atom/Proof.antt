@@ -2,7 +2,6 @@
 use mathlib.Core.Path.{sym, ◌∙◌}
 use native.Mathlib.Omega.{arith}
 use borrow.Author.Rules.{rules}
-use borrow.Author.Tests.{not-true}
 use Rattle.refusals.specs.Listed.{bit_below, noted_other, noted_again, noted_first}
 use Rattle.refusals.proofs.terms.note_atom.Statement.{statement}
 use Rattle.refusals.proofs.terms.note_atom.Tie as tie

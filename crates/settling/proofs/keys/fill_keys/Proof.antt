@@ -1,7 +1,6 @@
 -- `settling::keys::fill_keys` meets its contract. The invariant: the keys of the first k leads are set.
 use Prim.Native.Nat.{◌-◌, ◌≤◌}
 use Rattle.settling.specs.Keys.{Keyed, keyed_more}
-use borrow.Author.Rules.{rules}
 use mathlib.Core.Path.{◌≡◌, ◌∙◌, refl, sym}
 use native.Mathlib.Omega.{arith}
 use Rattle.settling.proofs.keys.fill_keys.Statement.{statement}

@@ -3,7 +3,6 @@ use Prim.Native.Nat.{◌/◌, ◌%◌}
 use Rattle.lists.specs.Booleans.{false_true}
 use Rattle.settling.specs.Settle.{repeated_true}
 use borrow.Author.Rules.{rules}
-use borrow.Author.Tests.{not-false}
 use mathlib.Core.Path.{refl, sym, ◌∙◌}
 use native.Mathlib.Omega.{arith}
 use Rattle.settling.proofs.repeats.is_repeated.Statement.{statement}

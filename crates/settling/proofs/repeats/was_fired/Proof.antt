@@ -1,7 +1,7 @@
 -- `settling::repeats::was_fired` meets its contract.
 use Rattle.lists.specs.Booleans.{false_true}
 use borrow.Author.Rules.{rules}
-use mathlib.Core.Path.{refl, sym, ◌∙◌}
+use mathlib.Core.Path.{refl}
 use native.Mathlib.Omega.{arith}
 use Rattle.settling.proofs.repeats.was_fired.Statement.{statement}
 use Rattle.settling.proofs.repeats.was_fired.Tie as tie

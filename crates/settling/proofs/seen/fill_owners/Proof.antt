@@ -1,7 +1,6 @@
 -- `settling::seen::fill_owners` meets its contract. The invariant: the classes of the first h homes are set.
 use Prim.Native.Nat.{◌-◌, ◌≤◌}
 use Rattle.settling.specs.Seen.{Owners, owners_done, owners_more, owners_start}
-use borrow.Author.Rules.{rules}
 use lib.ListN.{length}
 use mathlib.Core.Path.{refl}
 use native.Mathlib.Omega.{arith}

@@ -1,7 +1,5 @@
 -- `settling::seen::skip_class` meets its contract.
-use Prim.Native.Nat.{ℕ}
 use borrow.Author.Rules.{rules}
-use lib.ListN.{length-replicate}
 use mathlib.Core.Path.{refl, sym, ◌∙◌}
 use native.Mathlib.Omega.{arith}
 use Rattle.settling.proofs.seen.skip_class.Statement.{statement}

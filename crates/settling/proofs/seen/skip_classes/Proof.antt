@@ -1,7 +1,6 @@
 -- `settling::seen::skip_classes` meets its contract. The invariant: each class keeps what holds of the mask.
 use Prim.Native.Nat.{◌-◌}
 use Rattle.settling.specs.Seen.{SameOwner}
-use borrow.Author.Rules.{rules}
 use mathlib.Core.Path.{sym, ◌∙◌}
 use native.Mathlib.Omega.{arith}
 use Rattle.settling.proofs.seen.skip_classes.Statement.{statement}

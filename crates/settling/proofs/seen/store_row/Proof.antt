@@ -1,7 +1,6 @@
 -- `settling::seen::store_row` meets its contract. The invariant: each word that is stored keeps what holds of the mask.
 use Prim.Native.Nat.{◌-◌, ◌≤◌}
 use Rattle.settling.specs.Seen.{same_stored, SameOwner}
-use borrow.Author.Rules.{rules}
 use mathlib.Core.Path.{refl, sym, ◌∙◌}
 use native.Mathlib.Omega.{arith}
 use Rattle.settling.proofs.seen.store_row.Statement.{statement}

@@ -1,7 +1,6 @@
 -- `settling::seen::store_rows` meets its contract. The invariant: i is a home of the class.
 use Prim.Native.Nat.{◌-◌, ◌≤◌, ◌<◌}
 use Rattle.settling.specs.Seen.{SameOwner}
-use borrow.Author.Rules.{rules}
 use lib.ListN.{get_or}
 use mathlib.Core.Path.{◌≡◌, sym, ◌∙◌}
 use native.Mathlib.Omega.{arith}
