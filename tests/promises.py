@@ -28,6 +28,7 @@ PLACE = re.compile(r"\b([a-z_]+)/(src/\w+\.rt|[A-Z]\w+)\b")
 EDIT = re.compile(r"\b([a-z_]+)/([a-z0-9_]+)\b(?![./])")
 DECLARED = re.compile(r"\b(?:fn|struct|enum|const|type)\s+(\w+)")
 PUBLIC = re.compile(r'^pub fn (\w+)', re.MULTILINE)
+USED = re.compile(r"\b([a-z_]+(?:::[a-z_]+)*)::(?:(\w+)\b(?!::)|\{([^}]*)\})")
 
 
 class Check:
@@ -133,8 +134,18 @@ class Check:
             count = sum(len(re.findall(r'^(?:pub(?:\(crate\))? )?(?:extern "C" )?fn ', text, re.MULTILINE)) for text in texts)
             self.say(told.get(crate) == count, f"{crate} has {count} functions, the page says {told.get(crate)}")
 
+    @staticmethod
+    def used(text):
+        """The crates and names that the code's paths lead to, as a::b, a::m::b and a::{b, c}; comments are passed over."""
+        found = set()
+        for path, name, names in USED.findall(re.sub(r"//.*", "", text)):
+            for each in [name] if name else names.split(","):
+                found.add((path.split("::")[0], each.split(" as ")[0].strip()))
+        return found
+
     def public(self):
         """Who uses each public function, and whether it says so: above the function or at the head of its file or crate."""
+        used = {path: self.used(text) for path, text in self.sources.items()}
         for path, text in self.sources.items():
             crate = path.parts[1]
             heads = [text, self.sources.get(Path("crates", crate, "src/lib.rt"), "")]
@@ -145,11 +156,7 @@ class Check:
                     continue
                 above = re.search(r"((?://.*\n)*)$", text[: found.start()])[1]
                 said = set(re.findall(r"`(\w+)`", " ".join(re.findall(r"[Pp]ublic for[^.;]*", (above + head).replace("\n// ", " ")))))
-                users = {
-                    other.parts[1]
-                    for other, code in self.sources.items()
-                    if other.parts[1] != crate and re.search(rf"\b{crate}::(?:\w+::)?{name}\b", code)
-                }
+                users = {other.parts[1] for other, names in used.items() if other.parts[1] != crate and (crate, name) in names}
                 self.say(bool(users), f"{path}: {name} is public and no other crate uses it")
                 self.say(users <= said, f"{path}: {name} does not say that it is public for {', '.join(sorted(users - said))}")
 
