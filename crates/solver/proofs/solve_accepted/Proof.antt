@@ -22,18 +22,18 @@ returns c = let s = c.requires in let a = c.args in let ones = ones_kept c.fill.
     c.tell_differences.ensures.1
 
 write-marks-requires : tie.Need-write_marks-requires
-write-marks-requires c κs = let s = c.requires in let k = c.is_consistent.auto in (record { good = s.accepted; marks_count = filled_count 1 c.fill.ensures s.marks; reps_count = k.1.1.1.0 ∙ s.representatives; offs_count = k.1.1.1.1.0 ∙ s.offsets }, ones_kept c.fill.ensures s.marks)
+write-marks-requires c κs = let s = c.requires in let k = c.is_consistent.auto in (record { good = s.accepted; marks_count = filled_count 1 c.fill.ensures s.marks; reps_count = k.representatives ∙ s.representatives; offs_count = k.offsets ∙ s.offsets }, ones_kept c.fill.ensures s.marks)
 
 reset-requires : tie.Need-reset-requires
 reset-requires c κs = let s = c.requires in let k = c.is_consistent.auto in let b = c.write_marks.auto in
-    let r = b.1.1.1.1.0 ∙ (k.1.1.1.0 ∙ s.representatives) in
-    (b.1.1.1.1.1.0 ∙ (k.1.1.1.1.0 ∙ s.offsets) ∙ sym r, rw r s.accepted.few_terms)
+    let r = b.representatives ∙ (k.representatives ∙ s.representatives) in
+    (b.offsets ∙ (k.offsets ∙ s.offsets) ∙ sym r, rw r s.accepted.few_terms)
 
 returns-2 : tie.Need-returns
 returns-2 c = let s = c.requires in let a = c.args in let k = c.is_consistent.auto in let b = c.write_marks.auto in
     solves_contradiction _ s.accepted (is_contradictory_lem _ s.accepted (ones_kept c.fill.ensures s.marks) c.is_consistent.ensures c.if-is_consistent.false) a.blame a.questions.now
-    (b.1.1.1.1.0 ∙ (k.1.1.1.0 ∙ s.representatives))
-    (b.1.1.1.1.1.0 ∙ (k.1.1.1.1.0 ∙ s.offsets))
+    (b.representatives ∙ (k.representatives ∙ s.representatives))
+    (b.offsets ∙ (k.offsets ∙ s.offsets))
     c.reset.ensures
     c.write_marks.ensures
     (filled_as 0 c.fill-2.ensures s.pairs)
