@@ -9,6 +9,7 @@ Run from the repository's root: python3 tests/promises.py. Last line: "N passed,
 - The last table names each edit once. No row of a table is longer than two lines of 140 characters.
 - The numbers of functions are those that the crates have.
 - Each public function that is not called from outside the repository names the crates that use it, after "Public for".
+- Every path of the repository that a page names is there, or a command makes it, and `rt` is called by commands that it has.
 """
 
 import re
@@ -24,6 +25,20 @@ LONGEST = 280
 KIT = {"os", "rattle_errno", "rattle_arg", "rattle_arg_count", "rattle_set_errno", "__xpg_strerror_r"}
 # Forms that the scope paper names and that no other crate has a use for (docs/DECISIONS.md, 47).
 FORMS = {"offsets": ["negated", "subtracted"]}
+# The pages that tell of paths and commands; CHANGELOG.md tells of older ones too.
+PAGES = [Path("README.md"), *sorted(Path("docs").glob("*.md")), Path("examples/texts/README.md")]
+NAMED_PATH = re.compile(r"(?<![\w/.$])(?:\.ci|crates|docs|examples|include|target|tests|tools)/[\w./*-]*\w")
+MADE = {
+    "crates/bucketmonk/out/bucketmonk",
+    "crates/bucketmonk_c/out/libbucketmonk_c.a",
+    "target/failed",
+    "target/tests",
+    "target/tests/release",
+    "target/whole",
+}
+CODE = re.compile(r"```([^`]*)```|`([^`]+)`|^    (.*)$", re.MULTILINE)
+COMMAND = re.compile(r"\brt (all [a-z]+|[a-z][a-z-]*)")
+COMMANDS = {"all check", "ci", "lib", "run", "version"}
 PLACE = re.compile(r"\b([a-z_]+)/(src/\w+\.rt|[A-Z]\w+)\b")
 EDIT = re.compile(r"\b([a-z_]+)/([a-z0-9_]+)\b(?![./])")
 DECLARED = re.compile(r"\b(?:fn|struct|enum|const|type)\s+(\w+)")
@@ -161,10 +176,22 @@ class Check:
                 self.say(users <= said, f"{path}: {name} does not say that it is public for {', '.join(sorted(users - said))}")
 
 
+    def pages(self):
+        """The paths and commands that the pages name."""
+        for page in PAGES:
+            text = page.read_text(encoding="utf-8")
+            for path in sorted(set(NAMED_PATH.findall(text))):
+                good = path in MADE or "CRATE" in path or any(Path().glob(path))
+                self.say(good, f"{page} names {path}, which does not exist")
+            for command in sorted(set(COMMAND.findall("\n".join(map("".join, CODE.findall(text)))))):
+                self.say(command in COMMANDS, f"{page} names rt {command}, which rt does not have")
+
+
 def main():
     check = Check()
     check.page()
     check.public()
+    check.pages()
     print(f"{check.passed} passed, {check.failed} failed")
     return 1 if check.failed else 0
 
