@@ -1,8 +1,7 @@
 #!/usr/bin/env bash
 # Installs the library for C: bash install.sh [PREFIX]. Writes PREFIX/include/bucketmonk.h, PREFIX/lib/libbucketmonk_c.a and
 # PREFIX/lib/pkgconfig/bucketmonk.pc; PREFIX is /usr/local if not given. Where DESTDIR is set, it is put before PREFIX in the names of
-# these files, but not in what bucketmonk.pc says. rt staticlib builds the library and proves what is not proved yet: minutes in a
-# fresh tree.
+# these files, but not in what bucketmonk.pc says. rt lib builds the library and proves what is not proved yet: minutes in a fresh tree.
 set -u
 
 # stop MESSAGE [STATUS]
@@ -19,10 +18,10 @@ version=$(sed -n 's/^#define BUCKETMONK_VERSION "\(.*\)"$/\1/p' include/bucketmo
 [ -n "$version" ] || stop "no version in include/bucketmonk.h"
 root=${DESTDIR-}$prefix
 mkdir -p "$root/include" "$root/lib/pkgconfig" || stop "cannot make the directories in $root"
-rt staticlib bucketmonk_c || stop "the library is not proved or not built; nothing is installed"
+(cd crates/bucketmonk_c && rt lib) || stop "the library is not proved or not built; nothing is installed"
 
 install -m 644 include/bucketmonk.h "$root/include/" || stop "cannot write to $root/include"
-install -m 644 target/staticlib/libbucketmonk_c.a "$root/lib/" || stop "cannot write to $root/lib"
+install -m 644 crates/bucketmonk_c/out/libbucketmonk_c.a "$root/lib/" || stop "cannot write to $root/lib"
 install -m 644 /dev/stdin "$root/lib/pkgconfig/bucketmonk.pc" <<END || stop "cannot write to $root/lib/pkgconfig"
 prefix=$prefix
 includedir=\${prefix}/include

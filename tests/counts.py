@@ -21,7 +21,7 @@ LONGEST_LINE = 200
 # Comments, strings and characters may hold brackets, commas and keywords.
 NOT_CODE = re.compile(r"""//[^\n]*|"(?:\\.|[^"\\])*"|'(?:\\[^\n]|[^\\\n'])'""", re.DOTALL)
 FUNCTION = re.compile(r"\bfn\s+(\w+)\s*")
-CLAUSE = re.compile(r"^[ \t]*(?:requires|ensures)\s*\{", re.MULTILINE)
+CLAUSE = re.compile(r"^[ \t]*(?:requires|ensures)(?:[ \t]+\w+)?\s*\{", re.MULTILINE)
 PAIRS = {"(": ")", "[": "]", "{": "}", "<": ">"}
 
 

@@ -8,6 +8,7 @@ cd "$(dirname "$0")/.." || exit 2
 work=$(mktemp -d)
 trap 'rm -rf "$work"' EXIT
 err=$work/err
+library=crates/bucketmonk_c/out/libbucketmonk_c.a
 
 # holds NAME COMMAND..: the command succeeds
 holds() {
@@ -51,7 +52,7 @@ fi
 three=$(printf '%s\n' include/bucketmonk.h lib/libbucketmonk_c.a lib/pkgconfig/bucketmonk.pc)
 says "installed files" "$three" files "$work/prefix"
 holds "the installed header" cmp include/bucketmonk.h "$work/prefix/include/bucketmonk.h"
-holds "the installed library" cmp target/staticlib/libbucketmonk_c.a "$work/prefix/lib/libbucketmonk_c.a"
+holds "the installed library" cmp "$library" "$work/prefix/lib/libbucketmonk_c.a"
 
 # With an rt that does nothing, the library being built, and one that fails.
 mkdir "$work/done" "$work/fails" "$work/empty"
@@ -76,7 +77,7 @@ read -ra compile < <(pkg-config --cflags bucketmonk)
 read -ra link < <(pkg-config --libs bucketmonk)
 version=$(echo BUCKETMONK_VERSION | cc -E -P "${compile[@]}" -include bucketmonk.h - | tail -n 1 | tr -d '"')
 says "the version of the package" "$version" pkg-config --modversion bucketmonk
-says "the version of the program" "bucketmonk $version" timeout 10 target/bin/bucketmonk --version </dev/null
+says "the version of the program" "bucketmonk $version" timeout 10 crates/bucketmonk/out/bucketmonk --version </dev/null
 elsewhere="-I/elsewhere/include -L/elsewhere/lib -lbucketmonk_c"
 says "another prefix" "$elsewhere" pkg-config --define-variable=prefix=/elsewhere --cflags --libs bucketmonk
 
@@ -146,7 +147,7 @@ called() {
     cc -O0 -c "${compile[@]}" "$source" -o "$work/example.o" && nm "$work/example.o"
   done | awk '{print $NF}' | sort -u
 }
-exported() { nm -g --defined-only target/staticlib/libbucketmonk_c.a | awk '$2 == "T" {print $3}' | sort; }
+exported() { nm -g --defined-only "$library" | awk '$2 == "T" {print $3}' | sort; }
 says "functions that no example calls" "" comm -23 <(declared) <(called)
 says "functions that the header lacks" "" comm -13 <(declared) <(exported)
 [ "$(exported | wc -l)" -ge 5 ] || fail "fewer than 5 functions in the library"

@@ -9,6 +9,7 @@ Run from the repository's root: python3 tests/promises.py. Last line: "N passed,
 - The last table names each edit once. No row of a table is longer than two lines of 140 characters.
 - The numbers of functions are those that the crates have.
 - Each public function that is not called from outside the repository names the crates that use it, after "Public for".
+- Every path of the repository that a page names is there, or a command makes it, and `rt` is called by commands that it has.
 """
 
 import re
@@ -24,10 +25,25 @@ LONGEST = 280
 KIT = {"os", "rattle_errno", "rattle_arg", "rattle_arg_count", "rattle_set_errno", "__xpg_strerror_r"}
 # Forms that the scope paper names and that no other crate has a use for (docs/DECISIONS.md, 47).
 FORMS = {"offsets": ["negated", "subtracted"]}
+# The pages that tell of paths and commands; CHANGELOG.md tells of older ones too.
+PAGES = [Path("README.md"), *sorted(Path("docs").glob("*.md")), Path("examples/texts/README.md")]
+NAMED_PATH = re.compile(r"(?<![\w/.$])(?:\.ci|crates|docs|examples|include|target|tests|tools)/[\w./*-]*\w")
+MADE = {
+    "crates/bucketmonk/out/bucketmonk",
+    "crates/bucketmonk_c/out/libbucketmonk_c.a",
+    "target/failed",
+    "target/tests",
+    "target/tests/release",
+    "target/whole",
+}
+CODE = re.compile(r"```([^`]*)```|`([^`]+)`|^    (.*)$", re.MULTILINE)
+COMMAND = re.compile(r"\brt (all [a-z]+|[a-z][a-z-]*)")
+COMMANDS = {"all check", "ci", "lib", "run", "version"}
 PLACE = re.compile(r"\b([a-z_]+)/(src/\w+\.rt|[A-Z]\w+)\b")
 EDIT = re.compile(r"\b([a-z_]+)/([a-z0-9_]+)\b(?![./])")
 DECLARED = re.compile(r"\b(?:fn|struct|enum|const|type)\s+(\w+)")
 PUBLIC = re.compile(r'^pub fn (\w+)', re.MULTILINE)
+USED = re.compile(r"\b([a-z_]+(?:::[a-z_]+)*)::(?:(\w+)\b(?!::)|\{([^}]*)\})")
 
 
 class Check:
@@ -133,8 +149,18 @@ class Check:
             count = sum(len(re.findall(r'^(?:pub(?:\(crate\))? )?(?:extern "C" )?fn ', text, re.MULTILINE)) for text in texts)
             self.say(told.get(crate) == count, f"{crate} has {count} functions, the page says {told.get(crate)}")
 
+    @staticmethod
+    def used(text):
+        """The crates and names that the code's paths lead to, as a::b, a::m::b and a::{b, c}; comments are passed over."""
+        found = set()
+        for path, name, names in USED.findall(re.sub(r"//.*", "", text)):
+            for each in [name] if name else names.split(","):
+                found.add((path.split("::")[0], each.split(" as ")[0].strip()))
+        return found
+
     def public(self):
         """Who uses each public function, and whether it says so: above the function or at the head of its file or crate."""
+        used = {path: self.used(text) for path, text in self.sources.items()}
         for path, text in self.sources.items():
             crate = path.parts[1]
             heads = [text, self.sources.get(Path("crates", crate, "src/lib.rt"), "")]
@@ -145,19 +171,27 @@ class Check:
                     continue
                 above = re.search(r"((?://.*\n)*)$", text[: found.start()])[1]
                 said = set(re.findall(r"`(\w+)`", " ".join(re.findall(r"[Pp]ublic for[^.;]*", (above + head).replace("\n// ", " ")))))
-                users = {
-                    other.parts[1]
-                    for other, code in self.sources.items()
-                    if other.parts[1] != crate and re.search(rf"\b{crate}::(?:\w+::)?{name}\b", code)
-                }
+                users = {other.parts[1] for other, names in used.items() if other.parts[1] != crate and (crate, name) in names}
                 self.say(bool(users), f"{path}: {name} is public and no other crate uses it")
                 self.say(users <= said, f"{path}: {name} does not say that it is public for {', '.join(sorted(users - said))}")
+
+
+    def pages(self):
+        """The paths and commands that the pages name."""
+        for page in PAGES:
+            text = page.read_text(encoding="utf-8")
+            for path in sorted(set(NAMED_PATH.findall(text))):
+                good = path in MADE or "CRATE" in path or any(Path().glob(path))
+                self.say(good, f"{page} names {path}, which does not exist")
+            for command in sorted(set(COMMAND.findall("\n".join(map("".join, CODE.findall(text)))))):
+                self.say(command in COMMANDS, f"{page} names rt {command}, which rt does not have")
 
 
 def main():
     check = Check()
     check.page()
     check.public()
+    check.pages()
     print(f"{check.passed} passed, {check.failed} failed")
     return 1 if check.failed else 0
 

@@ -25,7 +25,7 @@ ENTRIES = {
     "bucketmonk_c": ["bucketmonk_solve", "bucketmonk_verdict", "bucketmonk_read", "bucketmonk_faulty_line", "bucketmonk_output"],
 }
 # What contracts name and the page says in full.
-ON_THE_PAGE = {"Answered", "verdictOf", "ReadAs", "WritesOutput", "output", "faultyPart", "readNumber", "blameOf"}
+ON_THE_PAGE = {"Answered", "verdict_of", "ReadAs", "WritesOutput", "output", "part_at_fault", "number_of_read", "blame_of_number"}
 # Lines that say nothing by themselves: blank ones, closing brackets, attributes for the compiler.
 UNREAD = re.compile(r"\s*([)}\]]*[;,]?|#\[.*)$")
 

@@ -1,6 +1,7 @@
 """The declarations of the crates' specs and sources, by name, for the scripts that check and count them."""
 
 import re
+from functools import cache
 from pathlib import Path
 
 NAME = r"[^\s(){}\[\],;.]+"
@@ -8,7 +9,7 @@ SIGNATURE = re.compile(rf"(abbrev |unfoldable )?(?:pub )?({NAME})(?: {{ℓ}})? :
 TYPE = re.compile(rf"(?:pub )?(?:record|data) ({NAME})")
 FIELD = re.compile(rf"\s+(?:pub )?({NAME}) :(?:\s|$)")
 USE = re.compile(r"(?:ghost )?(?:pub )?use ([^{;\s]+?)(?:\.\{(.*)\}| as (\S+))?;?\s*$")
-TOKEN = re.compile(r"[^\s(){}\[\],;⌜⌝]+")
+TOKEN = re.compile(r"[^\s(){}\[\],;]+")
 
 
 class Item:
@@ -99,18 +100,20 @@ def uses(lines):
 
 def spec_path(module):
     """The file of a module of ours, or None; of a type that the code declares, its crate and name."""
-    match = re.match(r"Rattle·(\w+)(?:·specs)?\.specs\.(.*)$", module)
-    if not match:
+    match = re.match(r"Rattle\.(\w+)\.specs\.(.*)$", module)
+    if not match or match[1] not in listed_crates():
         return None
     crate, rest = match.groups()
     if rest.startswith("declared."):
-        return crate, [part for part in rest.split(".")[1:] if part != "the-variants"][-1]
+        return crate, [part for part in rest.split(".")[1:] if part != "TheVariants"][-1]
     return Path("crates", crate, "specs", *rest.split(".")).with_suffix(".antt")
 
 
+@cache
 def listed_crates():
+    """The names of the crates, in the order of crates.txt; the word staticlib may stand after a name."""
     lines = Path("crates.txt").read_text(encoding="utf-8").splitlines()
-    return [line.split(":")[0].strip() for line in lines if ":" in line and not line.startswith("#")]
+    return [line.split(":")[0].split()[0] for line in lines if ":" in line and not line.startswith("#")]
 
 
 def files(part, ending):

@@ -157,7 +157,7 @@ pub fn keep_text(stem: &Path, text: &[u8], more: &str) -> String {
     let (path, shown) = (keep(stem, "txt", text), first_lines(text));
     let commands = [
         format!("{} {path}{more}", command("texts")),
-        format!("target/bin/bucketmonk < {path}"),
+        format!("crates/bucketmonk/out/bucketmonk < {path}"),
         format!("{} < {path}", command("second")),
     ];
     format!("  as a text, {path}, {} bytes:\n{shown}  alone: {}", text.len(), commands.join("\n         "))
