@@ -1,7 +1,7 @@
 -- All that is promised, in the order of the demands. Each statement stands in full; its proof of one line says where it is proved.
 -- The contract of a function promises for a call
 --   solve          Answered b T M N r            whether blame is asked for b, tables T, lent memory M before and N after, result r
---   verdict        r ≡ verdict_of T               tables T without questions, result r
+--   verdict        r ≡ verdict_of T              tables T without questions, result r
 --   read           ReadAs text C r D             text, lent rows C before and D after, result r
 --   faulty_line    HandedBack text r (part_at_fault text t p q)     r a part of the text; room for t, p and q records
 --   write_output   WritesOutput text old n new   text, buffer before and after, n bytes written

@@ -22,7 +22,7 @@ or_else (some a) b = some a
 abbrev pub refuse_if : Bool → Refusal → Option Refusal
 refuse_if b r = choose b (some r) none
 
--- a well_formed term's faults, after the records `earlier`
+-- a well-formed term's faults, after the records `earlier`
 unfoldable pub term_name_fault : List TermRecord → TermRecord → Option Refusal
 term_name_fault earlier r =
     or_else (refuse_if (eqb r.kind deref_kind && leb (length earlier) r.number) InnerNotListed)

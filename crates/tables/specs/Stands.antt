@@ -1,4 +1,4 @@
--- A well_formed record and the term or proposition that it stands for have the same kind and fields.
+-- A well-formed record and the term or proposition that it stands for have the same kind and fields.
 use Rattle.std.specs.Prelude.{ℕ, ◌<◌, ◌≤◌, ◌≡◌, refl, ◌≢◌, Bool, true, false, ◌&&◌, eqb, ltb, ℤ, pos, negsuc}
 use Rattle.std.proofs.Common.{arith, SFits, eqb-true, ltb-true}
 use Rattle.std.proofs.Math.Option.{some}
@@ -84,7 +84,7 @@ stands_for r x = go (eqb r.kind variable_kind) refl (eqb r.kind auxiliary_kind) 
         let d = eqb-true r.kind deref_kind t.0 in
         rw (← s.1) (record { kind = d; number = refl; offset = refl; atom = λ m. absurd (m d); fits = range_fits r.offset t.1 })
 
--- the offset of a well_formed dereference is within the limit
+-- the offset of a well-formed dereference is within the limit
 pub deref_within : (r : TermRecord) (x : Term) → term_of r ≡ some x → r.kind ≡ deref_kind → Within offset_limit r.offset
 deref_within r x e k = fits_within (stands_for r x e).fits
 
