@@ -1,36 +1,56 @@
 // The program: a text on standard input, frames on standard output. What is written for a text is proved of `driver::write_output`;
-// here are the read and the write around it, and the arguments.
+// here are the read and the write around it, and the arguments. `answer_input` speaks of readers and writers whose bytes are known;
+// of the system's own streams nothing is known.
+#![tactic(auto)]
+
+ghost use Rattle.std.specs.Prelude.{◌≡◌, List, ℕ, IfSome};
+ghost use Rattle.text.specs.Output.{output};
+ghost use Rattle.bucketmonk.specs.Answers.{WritesAnswer};
+ghost use Rattle.bucketmonk.specs.Calls.{PutsBytes};
+
 mod arguments;
 mod calls;
+mod failure;
 
-use arguments::{answer_argument, refuse};
-use calls::{Moved, put, read_input};
+use arguments::{answer_argument, has_argument, refuse};
+use calls::{put, read_input};
 use driver::{JUDGED, LARGEST, write_output};
+use failure::Failure;
+use std::io;
+use std::io::{Read, Write};
 
-// Writes what a text asks for to standard output.
-fn answer(text: &[u8]) {
+// Writes what a text asks for.
+fn answer<W: Write>(writer: &mut W, text: &[u8]) -> io::Result<()>
+    ensures { PutsBytes result (W.contents writer.old) (W.contents writer.new) (output text.now) }
+{
     let mut out = [0u8; LARGEST];
     let n = write_output(text, &mut out);
-    put(&out[..n]);
+    put(writer, &out[..n])
 }
 
-// Answers the text on standard input.
-fn answer_input() {
+// Answers the text that is read. Its first JUDGED bytes decide what is written, and no more are read.
+fn answer_input<R: Read, W: Write>(reader: &mut R, writer: &mut W) -> Result<(), Failure>
+    ensures { (text : List ℕ) × IfSome (R.remaining reader.old) (λ bytes. bytes ≡ text)
+        × WritesAnswer result (W.contents writer.old) (W.contents writer.new) (output text) }
+{
     let mut text = [0u8; JUDGED];
-    match read_input(&mut text) {
-        Moved::Bytes(n) => answer(&text[..n]),
-        Moved::Failed => os::fail(b"stdin"),
+    match read_input(reader, &mut text) {
+        Ok(n) => match answer(writer, &text[..n]) {
+            Ok(()) => Ok(()),
+            Err(e) => Err(Failure::Output(e)),
+        },
+        Err(e) => Err(Failure::Input(e)),
     }
 }
 
-fn main() {
-    // The program's own name is among them.
-    let count = os::arg_count();
-    if count > 2 {
-        refuse(b"more than one argument", b"");
-    } else if count == 2 {
-        answer_argument();
+fn main(rt: HostRuntime) -> Result<(), Failure> {
+    // Argument 0 is the program's own name.
+    if has_argument(&rt, 2) {
+        refuse(&mut rt.stderr(), b"more than one argument", b"");
+        Ok(())
+    } else if has_argument(&rt, 1) {
+        answer_argument(&rt, &mut rt.stdout(), &mut rt.stderr()).map_err(Failure::Output)
     } else {
-        answer_input();
+        answer_input(&mut rt.stdin(), &mut rt.stdout())
     }
 }
