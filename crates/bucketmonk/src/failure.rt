@@ -9,8 +9,8 @@ pub(crate) enum Failure {
     Output(io::Error),
 }
 
-// What `main` returns is printed by this: the stream, and what the system says of it.
-impl fmt::Debug for Failure {
+// The stream, and what the system says of it.
+impl fmt::Display for Failure {
     fn fmt<W: fmt::Write>(&self, f: &mut fmt::Formatter<W>) -> fmt::Result {
         match self {
             Failure::Input(e) => write!(f, "stdin: {e}"),

@@ -43,14 +43,18 @@ fn answer_input<R: Read, W: Write>(reader: &mut R, writer: &mut W) -> Result<(),
     }
 }
 
-fn main(rt: HostRuntime) -> Result<(), Failure> {
+fn main(rt: HostRuntime) {
     // Argument 0 is the program's own name.
-    if has_argument(&rt, 2) {
+    let end = if has_argument(&rt, 2) {
         refuse(&mut rt.stderr(), b"more than one argument", b"");
         Ok(())
     } else if has_argument(&rt, 1) {
         answer_argument(&rt, &mut rt.stdout(), &mut rt.stderr()).map_err(Failure::Output)
     } else {
         answer_input(&mut rt.stdin(), &mut rt.stdout())
+    };
+    if let Err(failure) = end {
+        // Where this cannot be written either, nothing is left to do.
+        let _ = eprintln!(rt; "{failure}");
     }
 }
