@@ -1,5 +1,5 @@
 // The program's argument.
-ghost use Rattle.std.specs.Prelude.{◌≤◌, length};
+ghost use Rattle.std.specs.Prelude.{◌≡◌, ◌≤◌, length, take};
 ghost use Rattle.bucketmonk.specs.Arguments.{Asks};
 
 use crate::calls::{put, write_bytes};
@@ -38,7 +38,8 @@ pub(crate) fn has_argument<E: Env>(env: &E, place: usize) -> bool {
 
 // Puts the argument, or as much of it as there is room for, into the buffer; tells how many bytes that are.
 fn first_argument<E: Env>(env: &E, buffer: &mut [u8]) -> usize
-    ensures { result ≤ length buffer.new }
+    ensures within { result ≤ length buffer.new }
+    ensures prefix { result ≡ length (take result buffer.new) }
 {
     match env.arg(1, buffer) {
         Ok(n) => n,
