@@ -1,5 +1,6 @@
 #!/usr/bin/env bash
-# Tests the program: bash tests/program.sh PROGRAM. Last line: "N passed, M failed".
+# Tests the program: bash tests/program.sh PROGRAM, where `rt run` in crates/bucketmonk builds crates/bucketmonk/out/bucketmonk.
+# Last line: "N passed, M failed".
 # Every run ends within 10 seconds or has failed. A run that succeeds has status 0 and writes nothing to standard error; one whose reading
 # or writing fails, or whose arguments are refused, tells why there (its status is 0 too: docs/DECISIONS.md, 19).
 set -u
@@ -29,10 +30,12 @@ wrote() {
   fi
 }
 
-# broke NAME STATUS [told]: a run came to an end and wrote why to standard error; without "told", a signal may have ended it instead
+# broke NAME STATUS [told]: a run ended with status 0 and wrote why to standard error; without "told", a signal may have ended it instead
 broke() {
   if [ "$2" -ge 124 ] && [ "$2" -le 127 ]; then
     fail "$1: does not end, or does not run (status $2)"
+  elif [ "$2" -ne 0 ] && { [ "${3-}" = told ] || [ "$2" -lt 128 ]; }; then
+    fail "$1: status $2"
   elif [ ! -s "$err" ] && { [ "${3-}" = told ] || [ "$2" -lt 128 ]; }; then
     fail "$1: no message"
   else
@@ -324,11 +327,14 @@ calls() {
   shift 2
   timeout 10 env LD_PRELOAD="$work/interposed.so" READ="$reads" WRITE="$writes" "$program" "$@"
 }
-# told NAME MESSAGE SIZE EXPECTED: a run told this message, and wrote so many bytes from the start of the file EXPECTED
+# told NAME STATUS MESSAGE SIZE EXPECTED: a run ended with status 0, told this message, and wrote so many bytes from the start of the file
+# EXPECTED
 told() {
-  if [ "$(cat "$err")" != "$2" ]; then
+  if [ "$2" -ne 0 ]; then
+    fail "$1: status $2"
+  elif [ "$(cat "$err")" != "$3" ]; then
     fail "$1: tells '$(head -n 1 "$err")'"
-  elif ! cmp -s "$out" <(head -c "$3" "$4"); then
+  elif ! cmp -s "$out" <(head -c "$4" "$5"); then
     fail "$1: writes $(head -c 60 "$out")"
   else
     pass
@@ -350,11 +356,11 @@ for text in whole.txt refused_10.txt "$work/full.txt"; do
 done
 for letters in e ie iiie se sie siiie; do
   calls "$letters" '' <whole.txt >"$out" 2>"$err"
-  told "reads $letters" 'stdin: Input/output error (os error 5)' 0 whole.out
+  told "reads $letters" $? 'stdin: Input/output error (os error 5)' 0 whole.out
   size=0
   case $letters in s*) size=7 ;; esac
   calls '' "$letters" <whole.txt >"$out" 2>"$err"
-  told "writes $letters" 'stdout: Input/output error (os error 5)' $size whole.out
+  told "writes $letters" $? 'stdout: Input/output error (os error 5)' $size whole.out
 done
 for letters in iii sisi; do
   for argument in help version; do
@@ -362,7 +368,7 @@ for letters in iii sisi; do
     wrote "--$argument, writes $letters" $? "$work/$argument"
   done
   calls '' "$letters$letters$letters" x </dev/null >"$out" 2>"$err"
-  told "an unknown argument, writes $letters" $'bucketmonk: unknown argument: x\ntry bucketmonk --help' 0 /dev/null
+  told "an unknown argument, writes $letters" $? $'bucketmonk: unknown argument: x\ntry bucketmonk --help' 0 /dev/null
 done
 
 # Signals that interrupt a read or a write that waits.
