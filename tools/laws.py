@@ -28,7 +28,9 @@ LAWS = {
     "blame": ["Blaming"],
 }
 # Definitions that move with the theorems that they name.
-WITH = {("tables", "Memory"): {"Passed"}}
+WITH = {("closure", "Closure"): {"Kept", "Together", "Anything"}, ("tables", "Memory"): {"Passed"}, ("blame", "Blaming"): {"less"}}
+# Definitions that stay and were their file's own, which the theorems name from another file now.
+OPEN = {("closure", "Closure"): ["continue"]}
 IDENT = r"[^\s(){}.,;:=→×@\"`|«»]+"
 KEYWORDS = r"(?:(abbrev|unfoldable) )?(?:(pub) )?(?:(unfoldable|abbrev) )?"
 
@@ -165,6 +167,8 @@ def split(crate, name):
     own = f"use Rattle.{crate}.specs.{name}.{{{', '.join(dict.fromkeys(names))}}}"
     last = max(k for k, it in enumerate(out) if it[0] == "use")
     out.insert(last + 1, ("use", own, [own], [], []))
+    for d in OPEN.get((crate, name), []):
+        stay = [(k, n, [l.replace(f"abbrev {d} :", f"abbrev pub {d} :") for l in ls], m, c) for k, n, ls, m, c in stay]
     os.makedirs(f"crates/{crate}/proofs", exist_ok=True)
     open(f"crates/{crate}/proofs/{name}.antt", "w", encoding="utf-8").write(write(out, [f"-- Laws of specs/{name}."]))
     open(path, "w", encoding="utf-8").write(write(stay, []))
@@ -189,6 +193,11 @@ def main():
         open(lib, "w", encoding="utf-8").write("\n".join(l for l in lines if l.split()[-1:] not in [[n] for n in whole]))
         mods = [n for n in order if (crate, n) in gone]
         open(f"crates/{crate}/proofs/Lib.antt", "w", encoding="utf-8").write("".join(f"pub mod {n}\n" for n in mods))
+    def pruned(path, text):
+        """Without the lines of specs/ that import from the crate's own proofs/: what needed them moved."""
+        crate = path.split("/")[1]
+        return re.sub(rf"(?m)^(?:pub )?use Rattle\.{crate}\.proofs\..*\n", "", text) if "/specs/" in path else text
+
     use = re.compile(r"^(\s*(?:pub )?use |ghost use )Rattle\.(\w+)\.specs\.(\w+)(\.\{(.*?)\}| as \S+)(;?)\s*$", re.M)
 
     def turn(m):
@@ -213,7 +222,7 @@ def main():
 
     for path in glob.glob("crates/*/specs/**/*.antt", recursive=True) + glob.glob("crates/*/proofs/**/*.antt", recursive=True) + glob.glob("crates/*/src/**/*.rt", recursive=True):
         text = open(path, encoding="utf-8").read()
-        new = use.sub(turn, text)
+        new = pruned(path, use.sub(turn, text))
         if new != text:
             open(path, "w", encoding="utf-8").write(new)
 

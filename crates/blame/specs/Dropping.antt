@@ -10,7 +10,7 @@ use Rattle.std.proofs.Math.ListN.{length, set, length-set}
 use Rattle.lists.specs.Search.{choose}
 use Rattle.rules.specs.Terms.{Term, Proposition, listed, WellFormed}
 use Rattle.outcome.specs.Blame.{kept_contradictory, drop_below}
-use Rattle.outcome.specs.BlameMinimal.{Below, kept_more}
+use Rattle.outcome.proofs.BlameMinimal.{Below, kept_more}
 use Rattle.blame.specs.Runs.{set_run, run_below, run_inside, run_above, run_none, run_one, run_both}
 
 -- without a run there are fewer

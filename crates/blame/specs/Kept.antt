@@ -4,13 +4,13 @@ use Rattle.std.proofs.Common.{sym, ◌∙◌, arith, ext_get_or}
 use Rattle.std.proofs.lemmas.List.{length-replicate, get_or-replicate}
 use Rattle.lists.specs.Tabulate.{length_tabulate, from_zero}
 use Rattle.rules.specs.Terms.{listed, WellFormed}
-use Rattle.rules.specs.Soundness.{no_contradiction}
+use Rattle.rules.proofs.Soundness.{no_contradiction}
 use Rattle.labels.specs.View.{view}
 use Rattle.closure.specs.Facts.{facts}
 use Rattle.closure.specs.Verdict as closure
 use Rattle.outcome.specs.Blame.{kept_contradictory}
-use Rattle.outcome.specs.BlameMinimal.{kept_exact, select_all}
-use Rattle.tables.specs.PropositionTable.{length_propositions_from, well_formed_from}
+use Rattle.outcome.proofs.BlameMinimal.{kept_exact, select_all}
+use Rattle.tables.proofs.PropositionTable.{length_propositions_from, well_formed_from}
 use Rattle.tables.specs.Sets.{Set, AcceptedSet, terms_in, propositions_in}
 use Rattle.consistency.specs.Live.{is_kept, kept_of, kept}
 use Rattle.consistency.specs.Deciding.{Decided, consistent, contradictory}

@@ -5,6 +5,4 @@ pub mod Join
 pub mod Closure
 pub mod Verdict
 pub mod Differences
-pub mod Different
-pub mod Distance
 pub mod Reached

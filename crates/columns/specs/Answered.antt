@@ -10,7 +10,8 @@ use Rattle.rules.specs.Terms.{Comparison}
 use Rattle.labels.specs.View.{view}
 use Rattle.outcome.specs.Outcome.{answer}
 use Rattle.tables.specs.Rows.{Row, question_in}
-use Rattle.tables.specs.QuestionTable.{AcceptedQuestions, asked, asked_below, questions_from}
+use Rattle.tables.specs.QuestionTable.{AcceptedQuestions, asked, questions_from}
+use Rattle.tables.proofs.QuestionTable.{asked_below}
 use Rattle.tables.specs.Sets.{Set, set_of, terms_in}
 use Rattle.placing.specs.Filling.{TermPlaces}
 use Rattle.placing.specs.Placed.{Labelled}

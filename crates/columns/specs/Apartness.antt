@@ -10,12 +10,12 @@ use Rattle.lists.specs.Items.{Item, In, item_below}
 use Rattle.rules.specs.Terms.{Term, variable, block_disequality, Given, DistinctVariables, listed, WellFormed}
 use Rattle.rules.specs.Rules.{Equal, E0, E1, E2, E3, E4, Apart}
 use Rattle.rules.specs.Assignments.{Placement}
-use Rattle.rules.specs.Soundness.{equal_holds}
+use Rattle.rules.proofs.Soundness.{equal_holds}
 use Rattle.labels.specs.Labelling.{class_equal}
 use Rattle.labels.specs.View.{view}
 use Rattle.tables.specs.Records.{variable_kind, is_same_atom}
-use Rattle.tables.specs.TermTable.{length_terms_from, term_from, variable_from, atoms_differ}
-use Rattle.tables.specs.PropositionTable.{proposition_from, block_from, sides_below, well_formed_from}
+use Rattle.tables.proofs.TermTable.{length_terms_from, term_from, variable_from, atoms_differ}
+use Rattle.tables.proofs.PropositionTable.{proposition_from, block_from, sides_below, well_formed_from}
 use Rattle.tables.specs.Sets.{Set, terms_in, propositions_in}
 use Rattle.pairbits.specs.Bits.{is_set}
 use Rattle.marking.specs.Marks.{Adds, bit_cases, no_bits, zeros}

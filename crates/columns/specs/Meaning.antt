@@ -13,20 +13,21 @@ use Rattle.lists.specs.Items.{Item}
 use Rattle.rules.specs.Terms.{Term, deref, Comparison, Given, listed}
 use Rattle.rules.specs.Rules.{Apart, Different}
 use Rattle.rules.specs.Assignments.{Placement}
-use Rattle.rules.specs.Soundness.{equal_holds, different_differs}
+use Rattle.rules.proofs.Soundness.{equal_holds, different_differs}
 use Rattle.labels.specs.Labelling.{class_equal}
 use Rattle.labels.specs.View.{view}
 use Rattle.closure.specs.Facts.{Facts, lists}
 use Rattle.closure.specs.Differences.{distance, different_at, different, drawn}
-use Rattle.closure.specs.Different.{at_symmetric, different_exact}
+use Rattle.closure.proofs.Different.{at_symmetric, different_exact}
 use Rattle.types.specs.declared.Answer.{Answer}
-use Rattle.closure.specs.Verdict.{holds, holds_true, true_holds}
+use Rattle.closure.specs.Verdict.{holds}
+use Rattle.closure.proofs.Verdict.{holds_true, true_holds}
 use Rattle.outcome.specs.Outcome.{answer}
 use Rattle.outcome.specs.PairBits.{pair_bytes}
 use Rattle.tables.specs.Limits.{square_small}
 use Rattle.tables.specs.Records.{deref_kind, disequality_kind}
-use Rattle.tables.specs.TermTable.{term_from, deref_from, inner_before}
-use Rattle.tables.specs.PropositionTable.{proposition_from, disequality_from, sides_below}
+use Rattle.tables.proofs.TermTable.{term_from, deref_from, inner_before}
+use Rattle.tables.proofs.PropositionTable.{proposition_from, disequality_from, sides_below}
 use Rattle.tables.specs.Sets.{Set, terms_in, propositions_in}
 use Rattle.pairbits.specs.Bits.{is_set, pair_bits_told}
 use Rattle.marking.specs.Marks.{Adds, zeros}

@@ -13,11 +13,12 @@ use Rattle.rules.specs.Assignments.{Placement, Holds, Assignment}
 use Rattle.labels.specs.Labelling.{deref_equal, equal_conflict, unequal_conflict, apart_conflict}
 use Rattle.labels.specs.View.{view}
 use Rattle.closure.specs.Facts.{comparison}
-use Rattle.closure.specs.Verdict.{holds, holds_true, true_holds}
+use Rattle.closure.specs.Verdict.{holds}
+use Rattle.closure.proofs.Verdict.{holds_true, true_holds}
 use Rattle.tables.specs.Records.{TermRecord, PropositionRecord, variable_kind, disequality_kind, block_disequality_kind, is_same_atom}
 use Rattle.tables.specs.Stands.{Asserts}
-use Rattle.tables.specs.TermTable.{length_terms_from, term_from, deref_from, variable_from, atoms_differ}
-use Rattle.tables.specs.PropositionTable.{sides_below, proposition_from, disequality_from, block_from}
+use Rattle.tables.proofs.TermTable.{length_terms_from, term_from, deref_from, variable_from, atoms_differ}
+use Rattle.tables.proofs.PropositionTable.{sides_below, proposition_from, disequality_from, block_from}
 use Rattle.tables.specs.Sets.{Set, AcceptedSet, terms_in, propositions_in}
 use Rattle.consistency.specs.Live.{is_kept, kept_of, kept, LiveAt, EqualBelow, Equalities, kept_well_formed, kept_in, chain_live, equalities_live, equalities_below}
 use Rattle.joins.specs.Meeting.{Clash, chain_keeps}

@@ -12,11 +12,11 @@ use Rattle.labels.specs.Relabel.{same_or_not}
 use Rattle.labels.specs.Spread.{Spread}
 use Rattle.labels.specs.Steps.{State, Step, by_equality, by_congruence, reversed, Bounded, joined_state, joined_spread, Fresh, fresh_state, fresh_spread}
 use Rattle.labels.specs.Joins.{Linked, Joined, down, rise, joined_keeps, joined_holds}
-use Rattle.outcome.specs.BlameMinimal.{some_of}
+use Rattle.outcome.proofs.BlameMinimal.{some_of}
 use Rattle.tables.specs.Limits.{offset_limit}
 use Rattle.tables.specs.Records.{equality_kind}
-use Rattle.tables.specs.TermTable.{length_terms_from, deref_from}
-use Rattle.tables.specs.PropositionTable.{well_formed_from, bounded_from, sides_below, equality_from}
+use Rattle.tables.proofs.TermTable.{length_terms_from, deref_from}
+use Rattle.tables.proofs.PropositionTable.{well_formed_from, bounded_from, sides_below, equality_from}
 use Rattle.tables.specs.Sets.{Set, AcceptedSet, terms_in, propositions_in}
 use Rattle.unionfind.specs.declared.Joining.{Joining}
 use Rattle.unionfind.specs.Forest.{Links, flat, Equated, joined, held, clashed}

@@ -8,7 +8,7 @@ use Rattle.tables.specs.Limits.{most}
 use Rattle.tables.specs.TableFaults.{tables_fault}
 use Rattle.text.specs.Reading.{Records, Reading, accepted, refused, reading}
 use Rattle.text.specs.Output.{outcome_frames, refusal_frame, reading_frames, solved}
-use Rattle.text.specs.Sound.{Sound, accepted_sound}
+use Rattle.text.proofs.Sound.{Sound, accepted_sound}
 use Rattle.types.specs.declared.ReadResult.{ReadResult}
 use Rattle.types.specs.declared.ReadResult.TheVariants.{Accepted, Refused}
 use Rattle.types.specs.declared.Counts.{Counts}

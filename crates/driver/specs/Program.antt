@@ -9,14 +9,15 @@ use Rattle.types.specs.declared.Verdict.{Verdict}
 use Rattle.types.specs.declared.Solved.{Solved}
 use Rattle.types.specs.declared.ReadResult.{ReadResult}
 use Rattle.tables.specs.TableFaults.{Tables}
-use Rattle.tables.specs.Memory.{Memory, memory_fault, call_accepted}
+use Rattle.tables.specs.Memory.{Memory, memory_fault}
+use Rattle.tables.proofs.Memory.{call_accepted}
 use Rattle.text.specs.Output.{verdict_frame, label_frames, blame_frames, answer_frames, outcome_frames, refusal_frame, output}
-use Rattle.text.specs.Size.{output_all}
+use Rattle.text.proofs.Size.{output_all}
 use Rattle.frames.specs.Rows.{Rows}
 use Rattle.reader.specs.Answers.{short_rows, ReadAs}
 use Rattle.reader.specs.Passing.{read_tables}
 use Rattle.solver.specs.Call.{solved_by, used, Answered}
-use Rattle.solver.specs.Demands.{used_run}
+use Rattle.solver.proofs.Demands.{used_run}
 use Rattle.driver.specs.Answering.{refused_frames, accepted_tables, accepted_frames}
 
 module _ (text : List ℕ) (C D : Rows) (r : ReadResult) (A : ReadAs text C r D) where

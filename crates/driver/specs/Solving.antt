@@ -12,14 +12,16 @@ use Rattle.outcome.specs.PairBits.{pair_bytes}
 use Rattle.outcome.specs.Outcome.{Outcome}
 use Rattle.tables.specs.Limits.{most}
 use Rattle.tables.specs.RefusalLaws.{or_else_none}
-use Rattle.tables.specs.TableFaults.{Tables, Sized, sized, sizes_fault, records_fault, tables_fault}
-use Rattle.tables.specs.Memory.{Memory, memory_of, call_fault, EnoughFor, Beyond, no_memory_fault, call_accepted}
+use Rattle.tables.specs.TableFaults.{Tables, Sized, sizes_fault, records_fault, tables_fault}
+use Rattle.tables.proofs.TableFaults.{sized}
+use Rattle.tables.specs.Memory.{Memory, memory_of, call_fault, EnoughFor, Beyond}
+use Rattle.tables.proofs.Memory.{no_memory_fault, call_accepted}
 use Rattle.text.specs.Output.{label_frames, blame_frames, middle, outcome_frames}
-use Rattle.text.specs.OutputSize.{largest_output, outcome_size}
+use Rattle.text.specs.OutputSize.{largest_output}
+use Rattle.text.proofs.OutputSize.{outcome_size}
 use Rattle.writer.specs.Frames.{set_frames}
 use Rattle.solver.specs.Call.{terms_of, propositions_of, questions_of, length_terms, length_propositions, length_questions, run, run_with, solved_by, used, Answered}
-use Rattle.solver.specs.Demands.{used_run, beyond_kept, refused_exactly}
-
+use Rattle.solver.proofs.Demands.{used_run, beyond_kept, refused_exactly}
 abbrev pub zero_memory : Memory
 zero_memory = memory_of (replicate most 0) (replicate most (pos 0)) (replicate most 0) (replicate 32768 0) (replicate most 0)
 

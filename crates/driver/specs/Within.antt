@@ -8,7 +8,8 @@ use Rattle.lists.specs.Search.{choose}
 use Rattle.lists.specs.Overwrite.{overwrite}
 use Rattle.text.specs.Reading.{reading}
 use Rattle.text.specs.Output.{judged, reading_frames, output}
-use Rattle.text.specs.OutputSize.{largest_output, output_size}
+use Rattle.text.specs.OutputSize.{largest_output}
+use Rattle.text.proofs.OutputSize.{output_size}
 use Rattle.writer.specs.Appended.{Appended}
 
 -- what is written to a buffer of so many bytes: the output, if there is room for the largest, else nothing

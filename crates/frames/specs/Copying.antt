@@ -1,7 +1,8 @@
 -- The counted rows of three tables in front of three others.
 use Rattle.std.specs.Prelude.{ℕ, ◌+◌, ◌<◌, ◌≤◌, ◌≡◌, refl, List, length, take, get_or, set}
 use Rattle.std.proofs.Common.{◌∙◌, arith, length-set}
-use Rattle.lists.specs.Overwrite.{overwrite, overwrite_copied}
+use Rattle.lists.specs.Overwrite.{overwrite}
+use Rattle.lists.proofs.Overwrite.{overwrite_copied}
 use Rattle.types.specs.declared.Counts.{Counts}
 use Rattle.frames.specs.Rows.{Rows, rows}
 

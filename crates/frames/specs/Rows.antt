@@ -6,7 +6,8 @@ use Rattle.std.proofs.Math.Option.{some}
 use Rattle.types.specs.declared.QuestionRecord.{QuestionRecord}
 use Rattle.rules.specs.Terms.{Comparison}
 use Rattle.tables.specs.Limits.{most}
-use Rattle.lists.specs.Overwrite.{overwrite, overwrite_next}
+use Rattle.lists.specs.Overwrite.{overwrite}
+use Rattle.lists.proofs.Overwrite.{overwrite_next}
 use Rattle.tables.specs.Rows.{Row, row_of_term, row_of_proposition, row_of_question}
 use Rattle.tables.specs.QuestionTable.{asked}
 use Rattle.text.specs.Frames as frames

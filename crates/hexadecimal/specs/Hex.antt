@@ -8,7 +8,7 @@ use Rattle.std.proofs.Math.Nat.{pow-le-pow_right}
 use Rattle.std.specs.Int.{w64}
 use Rattle.std.proofs.Math.ListN.{take, drop, drop_of_length-le}
 use Rattle.text.specs.Lines.{digit, cons_byte, bytes_of, big, signed}
-use Rattle.text.specs.Digits.{digit_only}
+use Rattle.text.proofs.Digits.{digit_only}
 use Rattle.hexadecimal.specs.declared.Spelled.TheVariants.{Value, Bad}
 use Rattle.hexadecimal.specs.Spelling.{spelled, pair_byte}
 

@@ -11,7 +11,8 @@ use Rattle.offsets.specs.Fits.{within_fits}
 use Rattle.tables.specs.Limits.{offset_limit}
 use Rattle.labels.specs.Joins.{Joined, joined_keeps}
 use Rattle.tables.specs.Records.{TermRecord, deref_kind}
-use Rattle.tables.specs.TermTable.{AcceptedTerms, inner_before, offset_within}
+use Rattle.tables.specs.TermTable.{AcceptedTerms}
+use Rattle.tables.proofs.TermTable.{inner_before, offset_within}
 use Rattle.unionfind.specs.declared.Root.{Root}
 use Rattle.unionfind.specs.declared.Joining.{Joining}
 use Rattle.unionfind.specs.Forest.{flat, Found, Equated}

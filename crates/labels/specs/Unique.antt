@@ -5,7 +5,7 @@ use Rattle.integers.specs.Linear.{linear, value, ‹◌›, ◌⊕◌}
 use Rattle.rules.specs.Terms.{Term, Given}
 use Rattle.rules.specs.Rules.{Equal}
 use Rattle.rules.specs.Assignments.{Placement, Holds, Respects}
-use Rattle.rules.specs.Soundness.{equal_holds}
+use Rattle.rules.proofs.Soundness.{equal_holds}
 use Rattle.labels.specs.Labelling.{Sound, Lowest, holds_equal}
 
 -- the labelling that the rules determine

@@ -12,12 +12,14 @@ use Rattle.rules.specs.Assignments.{Placement, Holds}
 use Rattle.integers.specs.Within.{Within}
 use Rattle.labels.specs.Spread.{far}
 use Rattle.closure.specs.Facts.{comparison}
-use Rattle.closure.specs.Verdict.{holds, holds_true, true_holds}
+use Rattle.closure.specs.Verdict.{holds}
+use Rattle.closure.proofs.Verdict.{holds_true, true_holds}
 use Rattle.types.specs.declared.TermNumber.{TermNumber}
 use Rattle.tables.specs.Limits.{most, offset_limit}
 use Rattle.tables.specs.Records.{TermRecord, deref_kind}
 use Rattle.tables.specs.Rows.{Row, term_in}
-use Rattle.tables.specs.TermTable.{AcceptedTerms, inner_before, offset_within}
+use Rattle.tables.specs.TermTable.{AcceptedTerms}
+use Rattle.tables.proofs.TermTable.{inner_before, offset_within}
 use Rattle.lastlook.specs.declared.Look.{Look}
 
 -- accepted terms, and a label for each

@@ -3,7 +3,8 @@ use Rattle.std.specs.Prelude.{◌≡◌, ℕ, ◌+◌, ◌*◌, ◌/◌, ◌%◌
 use Rattle.std.proofs.Common.{sym, ◌∙◌, ap, inl, inr, ⊎_elim, arith, length-set, eqb-true, eq-eqb, lt-ltb, ltb-true, ne_eqb}
 use Rattle.lists.specs.Booleans.{and_true, false_true, or_cases, or_second}
 use Rattle.lists.specs.Filled.{Filled, same_or_not}
-use Rattle.outcome.specs.PairBits.{bit_value, bit_value_below}
+use Rattle.outcome.specs.PairBits.{bit_value}
+use Rattle.outcome.proofs.PairBits.{bit_value_below}
 use Rattle.buckets.specs.Buckets.{Chainable, Chains, key_of, NextOf, less_or_not}
 use Rattle.tables.specs.Limits.{most}
 use Rattle.pairbits.specs.Bits.{is_set}

@@ -3,9 +3,5 @@
 pub mod Blame
 pub mod PairBits
 pub mod Outcome
-pub mod Lengths
 pub mod Examples
-pub mod BlameMinimal
-pub mod BlameOrder
 pub mod Marks
-pub mod Demands

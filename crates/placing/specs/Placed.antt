@@ -10,8 +10,10 @@ use Rattle.labels.specs.Spread.{far}
 use Rattle.tables.specs.Limits.{most, offset_limit}
 use Rattle.tables.specs.Records.{TermRecord, PropositionRecord, deref_kind, disequality_kind}
 use Rattle.tables.specs.Rows.{Row, term_in, proposition_in}
-use Rattle.tables.specs.TermTable.{AcceptedTerms, inner_before, offset_within}
-use Rattle.tables.specs.PropositionTable.{AcceptedPropositions, sides_below, proposition_offset_within}
+use Rattle.tables.specs.TermTable.{AcceptedTerms}
+use Rattle.tables.proofs.TermTable.{inner_before, offset_within}
+use Rattle.tables.specs.PropositionTable.{AcceptedPropositions}
+use Rattle.tables.proofs.PropositionTable.{sides_below, proposition_offset_within}
 use Rattle.tables.specs.Sets.{set_of, AcceptedSet}
 use Rattle.points.specs.Places.{top}
 use Rattle.placing.specs.Filling.{level, Lifted, TermPlaces, ReadPlace, ReadPlaces, SidePlace, SidePlaces}

@@ -10,7 +10,7 @@ pub mod Words
 use Words.*
 use Rattle.closure.specs.Reached as reached
 use Rattle.reader.specs.Facts as reads
-use Rattle.solver.specs.Demands as solver
+use Rattle.solver.proofs.Demands as solver
 use Rattle.driver.specs.Within as written
 use Rattle.driver.specs.Program as program
 use Rattle.results.specs.Results as numbers

@@ -2,7 +2,7 @@
 use Rattle.std.specs.Prelude.{ℕ, ◌≤◌, ◌≡◌, refl, List, map, length}
 use Rattle.std.proofs.Common.{sym, ◌∙◌, arith}
 use Rattle.std.proofs.Math.ListN.{length-map}
-use Rattle.lists.specs.Overwrite.{overwrite_covers}
+use Rattle.lists.proofs.Overwrite.{overwrite_covers}
 use Rattle.types.specs.declared.Counts.{Counts}
 use Rattle.tables.specs.Limits.{most}
 use Rattle.tables.specs.Rows.{row_of_term, row_of_proposition, row_of_question}

@@ -8,7 +8,7 @@ use Rattle.types.specs.declared.ReadResult.{ReadResult}
 use Rattle.types.specs.declared.ReadResult.TheVariants.{Accepted, Refused}
 use Rattle.tables.specs.Limits.{most}
 use Rattle.text.specs.Reading.{Records, Reading, accepted, refused, reading, part_of}
-use Rattle.text.specs.Size.{refused_place}
+use Rattle.text.proofs.Size.{refused_place}
 use Rattle.frames.specs.Rows.{Rows, rows_with}
 use Rattle.reader.specs.Loading.{counts_of}
 use Rattle.reader.specs.Answers.{short, short_rows, table_too_short, read_into, answer, ReadAs, part_at_fault}

@@ -14,7 +14,8 @@ use Rattle.lists.specs.Tabulate.{tabulate}
 use Rattle.rules.specs.Terms.{Term, variable, auxiliary, deref, block_disequality, Comparison}
 use Rattle.offsets.specs.Fits.{within_fits}
 use Rattle.tables.specs.Records.{TermRecord, PropositionRecord, term_of, proposition_of, question_of, offset_in_range, or_default}
-use Rattle.tables.specs.Stands.{StandsFor, stands_for, deref_within, asserts, in_range_lem, when_some}
+use Rattle.tables.specs.Stands.{StandsFor}
+use Rattle.tables.proofs.Stands.{stands_for, deref_within, asserts, in_range_lem, when_some}
 use Rattle.tables.specs.Refusals.{term_fault, proposition_fault, question_fault}
 use Rattle.tables.specs.RefusalLaws.{or_else_none, malformed_none}
 use Rattle.tables.specs.Rows.{Row, term_of_row, row_of_term, term_in, proposition_of_row, row_of_proposition, proposition_in, question_of_row, row_of_question, question_in}
@@ -24,7 +25,7 @@ use Rattle.tables.specs.PropositionTable.{propositions_from}
 use Rattle.tables.specs.QuestionTable.{asked, questions_from}
 use Rattle.lists.specs.Overwrite.{overwrite}
 use Rattle.text.specs.Reading.{Records}
-use Rattle.text.specs.Sound.{Sound}
+use Rattle.text.proofs.Sound.{Sound}
 use Rattle.frames.specs.Rows.{Rows, asking, rows_with}
 
 -- the offset of a record without fault fits its field

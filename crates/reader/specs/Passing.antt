@@ -7,10 +7,12 @@ use Rattle.lists.specs.Items.{get_d_item}
 use Rattle.rules.specs.Terms.{Comparison}
 use Rattle.tables.specs.Limits.{most}
 use Rattle.tables.specs.Records.{TermRecord, PropositionRecord}
-use Rattle.tables.specs.TableFaults.{Tables, tables_of, Sized, tables_fault, Accepted as AcceptedTables, unrefused}
-use Rattle.lists.specs.Overwrite.{overwrite, overwrite_covers}
+use Rattle.tables.specs.TableFaults.{Tables, tables_of, Sized, tables_fault, Accepted as AcceptedTables}
+use Rattle.tables.proofs.TableFaults.{unrefused}
+use Rattle.lists.specs.Overwrite.{overwrite}
+use Rattle.lists.proofs.Overwrite.{overwrite_covers}
 use Rattle.text.specs.Reading.{Records, Reading, accepted, refused, reading}
-use Rattle.text.specs.Sound.{Sound, accepted_sound}
+use Rattle.text.proofs.Sound.{Sound, accepted_sound}
 use Rattle.types.specs.declared.ReadResult.TheVariants.{Accepted}
 use Rattle.types.specs.declared.Counts.{Counts}
 use Rattle.frames.specs.Rows.{Rows, rows_with}

@@ -9,9 +9,9 @@ use borrow.Author.Tests.{ltb-true}
 use Rattle.std.proofs.Math.ListN.{length, drop}
 use Rattle.types.specs.declared.Refusal.{Refusal}
 use Rattle.text.specs.Lines.{Line, lines_of}
-use Rattle.text.specs.FrameLaws.{line_framed}
+use Rattle.text.proofs.FrameLaws.{line_framed}
 use Rattle.text.specs.Reading.{Records, nothing, accepted, refused, refuse, go_on, step, read_lines, reading, line_start}
-use Rattle.text.specs.Laws.{step_frame_lem}
+use Rattle.text.proofs.Laws.{step_frame_lem}
 use Rattle.types.specs.declared.Counts.{Counts}
 use Rattle.reader.specs.declared.Loaded.TheVariants as loadeds
 use Rattle.lines.specs.LineEnds.{lines_of_nil, line_of, end_of_line, end_after, end_within, lines_of_at}

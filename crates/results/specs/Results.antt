@@ -10,14 +10,13 @@ use Rattle.numbers.specs.Numbers.{number_of_solved, number_of_read, Tells, Tells
 use Rattle.tables.specs.Limits.{most}
 use Rattle.tables.specs.TableFaults.{Tables}
 use Rattle.tables.specs.Memory.{Memory}
-use Rattle.tables.specs.Places.{call_place, tables_place}
+use Rattle.tables.proofs.Places.{call_place, tables_place}
 use Rattle.frames.specs.Rows.{Rows}
 use Rattle.reader.specs.Answers.{ReadAs}
 use Rattle.reader.specs.Passing.{read_sized}
 use Rattle.reader.specs.Facts.{read_place}
 use Rattle.solver.specs.Call.{Answered, verdict_of}
-use Rattle.solver.specs.Demands.{refused_exactly, verdict_refused_exactly}
-
+use Rattle.solver.proofs.Demands.{refused_exactly, verdict_refused_exactly}
 -- the number of what `solve` returns, and the memory that it leaves
 pub record AnsweredNumber (b : Blame) (T : Tables) (M N : Memory) (r : ℕ) : Type 0 where
   pub solved : Solved

@@ -2,5 +2,4 @@
 pub mod Terms
 pub mod Rules
 pub mod Assignments
-pub mod Soundness
 pub mod Monotone

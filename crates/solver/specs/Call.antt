@@ -10,15 +10,17 @@ use Rattle.types.specs.declared.Verdict.TheVariants.{Satisfiable, Contradiction}
 use Rattle.rules.specs.Terms.{Term, Proposition, Comparison}
 use Rattle.outcome.specs.PairBits.{pair_bytes}
 use Rattle.outcome.specs.Outcome.{Outcome, outcome, with_blame}
-use Rattle.outcome.specs.Lengths.{outcome_lengths, length_marks}
+use Rattle.outcome.proofs.Lengths.{outcome_lengths, length_marks}
 use Rattle.tables.specs.Limits.{most}
 use Rattle.tables.specs.Rows.{Row, term_in, proposition_in, question_in}
-use Rattle.tables.specs.TermTable.{terms_from, length_terms_from}
-use Rattle.tables.specs.PropositionTable.{propositions_from, length_propositions_from}
-use Rattle.tables.specs.QuestionTable.{questions_from, length_questions_from}
+use Rattle.tables.specs.TermTable.{terms_from}
+use Rattle.tables.proofs.TermTable.{length_terms_from}
+use Rattle.tables.specs.PropositionTable.{propositions_from}
+use Rattle.tables.proofs.PropositionTable.{length_propositions_from}
+use Rattle.tables.specs.QuestionTable.{questions_from}
+use Rattle.tables.proofs.QuestionTable.{length_questions_from}
 use Rattle.tables.specs.TableFaults.{Tables, tables_of, tables_fault}
 use Rattle.tables.specs.Memory.{Memory, memory_with, call_fault}
-
 -- the set and the questions that accepted tables hold
 abbrev pub terms_of : Tables → List Term
 terms_of T = terms_from T.terms.count (term_in T.terms.rows)

@@ -4,11 +4,13 @@ use Rattle.std.proofs.Common.{◌∙◌, ap, get_or-take, length-take-le}
 use Rattle.std.proofs.Math.Option.{none}
 use Rattle.tables.specs.Limits.{most}
 use Rattle.tables.specs.Rows.{Row, term_of_row, proposition_of_row, question_of_row, term_in, proposition_in, question_in}
-use Rattle.tables.specs.TermTable.{terms_from_ext}
-use Rattle.tables.specs.PropositionTable.{propositions_from_ext}
-use Rattle.tables.specs.QuestionTable.{AcceptedQuestions, questions_from_ext}
+use Rattle.tables.proofs.TermTable.{terms_from_ext}
+use Rattle.tables.proofs.PropositionTable.{propositions_from_ext}
+use Rattle.tables.specs.QuestionTable.{AcceptedQuestions}
+use Rattle.tables.proofs.QuestionTable.{questions_from_ext}
 use Rattle.tables.specs.Sets.{Set, set_of, AcceptedSet, terms_in, propositions_in}
-use Rattle.tables.specs.TableFaults.{Tables, records_fault, Sized, accepted}
+use Rattle.tables.specs.TableFaults.{Tables, records_fault, Sized}
+use Rattle.tables.proofs.TableFaults.{accepted}
 use Rattle.refusals.specs.Parts.{parts_fault}
 use Rattle.columns.specs.Telling.{questions_in}
 use Rattle.solver.specs.Call.{terms_of, propositions_of, questions_of}

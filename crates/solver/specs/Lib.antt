@@ -4,5 +4,3 @@ pub mod Counted
 pub mod Solving
 pub mod Verdict
 pub mod Results
-pub mod Answering
-pub mod Demands

@@ -15,20 +15,24 @@ use Rattle.labels.specs.Steps.{Fresh}
 use Rattle.labels.specs.Unique.{Canonical, canonical_equal}
 use Rattle.labels.specs.View.{view}
 use Rattle.closure.specs.Facts.{lists}
-use Rattle.closure.specs.Join.{Label, unlabelled, placed, rep_at, off_at, own, own_at, length_own}
-use Rattle.closure.specs.Closure.{closure, length_closure}
-use Rattle.closure.specs.Verdict.{holds, holds_true, true_holds, closure_canonical, canonical_computed}
+use Rattle.closure.specs.Join.{Label, unlabelled, placed, own}
+use Rattle.closure.proofs.Join.{rep_at, off_at, own_at, length_own}
+use Rattle.closure.specs.Closure.{closure}
+use Rattle.closure.proofs.Closure.{length_closure}
+use Rattle.closure.specs.Verdict.{holds}
+use Rattle.closure.proofs.Verdict.{holds_true, true_holds, closure_canonical, canonical_computed}
 use Rattle.closure.specs.Differences.{different}
-use Rattle.closure.specs.Different.{different_exact}
+use Rattle.closure.proofs.Different.{different_exact}
 use Rattle.outcome.specs.PairBits.{pair_bits, pair_bytes}
 use Rattle.outcome.specs.Outcome.{answer, satisfiable, contradiction, outcome, marks_if}
-use Rattle.outcome.specs.Lengths.{marks_of_zeros}
+use Rattle.outcome.proofs.Lengths.{marks_of_zeros}
 use Rattle.pairbits.specs.Bits.{pair_bits_same}
 use Rattle.tables.specs.Limits.{most}
 use Rattle.tables.specs.Rows.{Row, question_in}
-use Rattle.tables.specs.TermTable.{length_terms_from}
-use Rattle.tables.specs.PropositionTable.{length_propositions_from}
-use Rattle.tables.specs.QuestionTable.{AcceptedQuestions, length_questions_from, question_sides}
+use Rattle.tables.proofs.TermTable.{length_terms_from}
+use Rattle.tables.proofs.PropositionTable.{length_propositions_from}
+use Rattle.tables.specs.QuestionTable.{AcceptedQuestions}
+use Rattle.tables.proofs.QuestionTable.{length_questions_from, question_sides}
 use Rattle.tables.specs.Sets.{Set, AcceptedSet, terms_in, propositions_in}
 use Rattle.unionfind.specs.Forest.{Cleared}
 use Rattle.joins.specs.Labels.{spread_near}
@@ -38,7 +42,6 @@ use Rattle.columns.specs.Telling.{facts_in, pairs_by, answers_by, questions_in, 
 use Rattle.solver.specs.Solving.{Solves}
 use Rattle.blame.specs.Kept.{AllKept, is_contradictory, kept_listed, set_well_formed}
 use Rattle.blame.specs.Blaming.{marks_of_blame}
-
 module _ (S : Set) (good : AcceptedSet S) where
   abbrev ts : List Term
   ts = terms_in S

@@ -15,7 +15,8 @@ use Rattle.tables.specs.Rows.{Row}
 use Rattle.tables.specs.Refusals.{first_fault}
 use Rattle.tables.specs.RefusalLaws.{or_else_none}
 use Rattle.tables.specs.QuestionTable.{questions_fault, questions_from}
-use Rattle.tables.specs.TableFaults.{Tables, tables_of, acceptance, lengths_fault, sizes_fault, records_fault, tables_fault, Sized, sized}
+use Rattle.tables.specs.TableFaults.{Tables, tables_of, acceptance, lengths_fault, sizes_fault, records_fault, tables_fault, Sized}
+use Rattle.tables.proofs.TableFaults.{sized}
 use Rattle.refusals.specs.FirstFault.{accepts}
 use Rattle.solver.specs.Call.{terms_of, propositions_of, run, solved_by, returned, unasked, verdict_of}
 use Rattle.solver.specs.Counted.{counted_set, counted_terms, counted_propositions}

@@ -12,4 +12,3 @@ pub mod QuestionTable
 pub mod Sets
 pub mod TableFaults
 pub mod Memory
-pub mod Places

@@ -5,10 +5,5 @@ pub mod Lines
 pub mod Frames
 pub mod Reading
 pub mod Output
-pub mod Digits
-pub mod Laws
-pub mod FrameLaws
-pub mod Size
-pub mod Sound
 pub mod OutputSize
 pub mod WholeCase

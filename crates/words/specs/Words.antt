@@ -10,7 +10,8 @@ use Rattle.std.proofs.Math.Pow.{high, low, field, mod-mod-pow}
 use Rattle.std.proofs.lemmas.Bool.{eqb-false}
 use Rattle.lists.specs.Booleans.{and_true, false_true, or_cases, or_second}
 use Rattle.lists.specs.Filled.{same_or_not}
-use Rattle.outcome.specs.PairBits.{bit_of, bit_value, bit_value_below}
+use Rattle.outcome.specs.PairBits.{bit_of, bit_value}
+use Rattle.outcome.proofs.PairBits.{bit_value_below}
 use Rattle.pairbits.specs.Bits.{is_set, is_set_same, with_bit, is_set_with_bit, length_with_bit, Bytes, bytes_with_bit}
 
 -- bit b of a number is 1

@@ -7,7 +7,7 @@ use Rattle.std.proofs.Math.Numerals.{add-one}
 use Rattle.std.proofs.Math.Seq.{drop-cons}
 use Rattle.types.specs.declared.Verdict.{Verdict}
 use Rattle.text.specs.Lines.{lf, digit_of_value, hex_of, unsigned}
-use Rattle.text.specs.OutputSize.{length_line}
+use Rattle.text.proofs.OutputSize.{length_line}
 use Rattle.text.specs.Output.{line_of, verdict_frame, label_frame, label_frames, blame_frame, blame_if, cell_frames, answer_frame, answer_frames}
 
 -- the line of a frame's bytes from number k on, with byte k's digits taken off

@@ -3,7 +3,8 @@ use mathlib.Core.Path.{◌≡◌, sym, ◌∙◌}
 use native.Mathlib.Omega.{arith}
 use borrow.Author.Rules.{rules}
 use Rattle.tables.specs.Sets.{set_of}
-use Rattle.blame.specs.Blaming.{Turn, tried_kept, trying_start, trying_dropped, trying_blamed, trying_end}
+use Rattle.blame.specs.Blaming.{Turn}
+use Rattle.blame.proofs.Blaming.{tried_kept, trying_start, trying_dropped, trying_blamed, trying_end}
 use Rattle.blame.proofs.blame_marks.Statement.{statement}
 use Rattle.blame.proofs.blame_marks.Tie as tie
 

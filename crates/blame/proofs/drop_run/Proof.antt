@@ -1,7 +1,7 @@
 -- The run is cleared, and set again if the verdict without it is that the others are consistent.
 use native.Mathlib.Omega.{arith}
 use borrow.Author.Rules.{rules}
-use Rattle.blame.specs.Blaming.{run_dropped, run_kept}
+use Rattle.blame.proofs.Blaming.{run_dropped, run_kept}
 use Rattle.blame.proofs.drop_run.Statement.{statement}
 use Rattle.blame.proofs.drop_run.Tie as tie
 

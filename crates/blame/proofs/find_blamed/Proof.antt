@@ -4,7 +4,8 @@ use mathlib.Core.Path.{◌≡◌, sym, ◌∙◌}
 use native.Mathlib.Omega.{arith}
 use lib.ListN.{length}
 use Rattle.tables.specs.Sets.{set_of}
-use Rattle.blame.specs.Blaming.{Halving, halving_start, blamed_length, blamed_ones, upper_dropped, upper_kept}
+use Rattle.blame.specs.Blaming.{Halving}
+use Rattle.blame.proofs.Blaming.{halving_start, blamed_length, blamed_ones, upper_dropped, upper_kept}
 use Rattle.blame.proofs.find_blamed.Statement.{statement}
 use Rattle.blame.proofs.find_blamed.Tie as tie
 

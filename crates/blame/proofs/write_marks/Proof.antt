@@ -2,7 +2,7 @@
 use mathlib.Core.Path.{sym, ◌∙◌}
 use Rattle.tables.specs.Sets.{set_of}
 use Rattle.memory.specs.Cells.{filled_as}
-use Rattle.blame.specs.Blaming.{length_blame_marks}
+use Rattle.blame.proofs.Blaming.{length_blame_marks}
 use borrow.Author.Rules.{rules}
 use Rattle.blame.proofs.write_marks.Statement.{statement}
 use Rattle.blame.proofs.write_marks.Tie as tie

@@ -1,7 +1,7 @@
 -- What `write_output` leaves at the start of the buffer is the output.
 use Rattle.std.proofs.Common.{◌≡◌, ℕ, ◌≤◌, List, arith, length, replicate, take, ap, ◌∙◌, sym, subst}
 use Rattle.std.proofs.lemmas.List.{length-replicate}
-use Rattle.lists.specs.Overwrite.{take_overwrite}
+use Rattle.lists.proofs.Overwrite.{take_overwrite}
 use Rattle.text.specs.Output.{output}
 use Rattle.text.specs.OutputSize.{largest_output}
 use Rattle.driver.specs.Within.{WritesOutput, written_all}

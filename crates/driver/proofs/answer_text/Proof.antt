@@ -2,7 +2,7 @@
 use mathlib.Core.Path.{refl}
 use native.Mathlib.Omega.{arith}
 use borrow.Author.Rules.{rules}
-use Rattle.text.specs.OutputSize.{refusal_size}
+use Rattle.text.proofs.OutputSize.{refusal_size}
 use Rattle.driver.specs.Answering.{refused_frames, accepted_tables, accepted_frames}
 use Rattle.driver.proofs.answer_text.Statement.{statement}
 use Rattle.driver.proofs.answer_text.Tie as tie

@@ -2,7 +2,7 @@
 use borrow.Author.Rules.{rules}
 use mathlib.Core.Path.{sym, ap}
 use native.Mathlib.Omega.{arith}
-use Rattle.text.specs.Digits.{decimal_value, letter_value, no_value}
+use Rattle.text.proofs.Digits.{decimal_value, letter_value, no_value}
 use Rattle.hexadecimal.specs.Spelling.{spelled}
 use Rattle.hexadecimal.proofs.digit.Statement.{statement}
 use Rattle.hexadecimal.proofs.digit.Tie as tie

@@ -1,7 +1,7 @@
 -- `hexadecimal::digit_of` meets its contract.
 use borrow.Author.Rules.{rules}
 use native.Mathlib.Omega.{arith}
-use Rattle.text.specs.Digits.{decimal_digit, letter_digit}
+use Rattle.text.proofs.Digits.{decimal_digit, letter_digit}
 use Rattle.hexadecimal.proofs.digit_of.Statement.{statement}
 use Rattle.hexadecimal.proofs.digit_of.Tie as tie
 

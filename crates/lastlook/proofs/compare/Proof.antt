@@ -4,7 +4,7 @@ use native.Mathlib.Omega.{arith}
 use lib.IntN.{pos}
 use borrow.Author.Rules.{rules}
 use Rattle.closure.specs.Facts.{comparison}
-use Rattle.closure.specs.Verdict.{holds_true}
+use Rattle.closure.proofs.Verdict.{holds_true}
 use Rattle.lastlook.specs.Order.{unequal_found, right, wrong}
 use Rattle.lastlook.proofs.compare.Statement.{statement}
 use Rattle.lastlook.proofs.compare.Tie as tie

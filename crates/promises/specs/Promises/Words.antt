@@ -26,9 +26,10 @@ pub use Rattle.tables.specs.Memory.{Memory, memory_fault, call_fault, Beyond}
 pub use Rattle.text.specs.Lines.{Line, lines_of}
 pub use Rattle.text.specs.Reading.{Records, accepted, refused, reading, part_of}
 pub use Rattle.text.specs.Output.{judged, verdict_frame, label_frames, blame_frames, answer_frames, refusal_frame, output}
-pub use Rattle.text.specs.Laws.{part_characters}
-pub use Rattle.text.specs.Size.{judged_enough}
-pub use Rattle.text.specs.OutputSize.{largest_output, output_size, output_some}
+pub use Rattle.text.proofs.Laws.{part_characters}
+pub use Rattle.text.proofs.Size.{judged_enough}
+pub use Rattle.text.specs.OutputSize.{largest_output}
+pub use Rattle.text.proofs.OutputSize.{output_size, output_some}
 pub use Rattle.frames.specs.Rows.{Rows, rows_with}
 pub use Rattle.reader.specs.Loading.{counts_of}
 pub use Rattle.reader.specs.Answers.{short_rows, table_too_short, ReadAs, short, part_at_fault}

@@ -3,7 +3,8 @@ use mathlib.Core.Path.{sym}
 use lib.Seq.{length-take-le}
 use borrow.Author.Rules.{rules}
 use Rattle.tables.specs.Limits.{most}
-use Rattle.tables.specs.TableFaults.{Tables, tables_of, sizes_fault, records_fault, tables_fault, Sized, sized}
+use Rattle.tables.specs.TableFaults.{Tables, tables_of, sizes_fault, records_fault, tables_fault, Sized}
+use Rattle.tables.proofs.TableFaults.{sized}
 use Rattle.refusals.specs.FirstFault.{accepts, refused_first, accepted_first}
 use Rattle.refusals.specs.Parts.{parts_fault}
 use Rattle.refusals.proofs.check_tables.Statement.{statement}

@@ -6,7 +6,7 @@ use Rattle.types.specs.declared.Acceptance.TheVariants.{Accepted}
 use Rattle.tables.specs.TableFaults.{Tables, tables_of, acceptance, sizes_fault, Sized}
 use Rattle.tables.specs.Memory.{Memory, memory_of, memory_fault, EnoughFor}
 use Rattle.tables.specs.Limits.{most, square_small}
-use Rattle.solver.specs.Answering.{sizes_refused, counts, memory_refused, room, records_refused, accepted_call, answered}
+use Rattle.solver.proofs.Answering.{sizes_refused, counts, memory_refused, room, records_refused, accepted_call, answered}
 use borrow.Author.Rules.{rules}
 use Rattle.solver.proofs.solve.Statement.{statement}
 use Rattle.solver.proofs.solve.Tie as tie

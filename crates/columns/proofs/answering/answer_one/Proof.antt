@@ -3,7 +3,7 @@ use mathlib.Core.Path.{◌∙◌, ap}
 use native.Mathlib.Omega.{arith}
 use borrow.Author.Rules.{rules}
 use Rattle.types.specs.declared.QuestionRecord.{QuestionRecord}
-use Rattle.tables.specs.QuestionTable.{asked_below}
+use Rattle.tables.proofs.QuestionTable.{asked_below}
 use Rattle.columns.proofs.answering.answer_one.Statement.{statement}
 use Rattle.columns.proofs.answering.answer_one.Tie as tie
 

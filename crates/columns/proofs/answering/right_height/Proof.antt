@@ -6,7 +6,7 @@ use mir.ValLaws.{to_z-of_z}
 use borrow.Author.Rules.{rules, sfits_of}
 use Rattle.offsets.specs.Fits.{fits_within}
 use Rattle.types.specs.declared.QuestionRecord.{QuestionRecord}
-use Rattle.tables.specs.QuestionTable.{asked_below, asked_fits}
+use Rattle.tables.proofs.QuestionTable.{asked_below, asked_fits}
 use Rattle.columns.proofs.answering.right_height.Statement.{statement}
 use Rattle.columns.proofs.answering.right_height.Tie as tie
 

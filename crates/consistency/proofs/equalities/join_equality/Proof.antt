@@ -6,9 +6,9 @@ use mir.Syntax.{w64}
 use mir.ValLaws.{to_z-of_z}
 use borrow.Author.Rules.{rules, sfits_of}
 use Rattle.labels.specs.Spread.{far}
-use Rattle.closure.specs.Distance.{wider}
+use Rattle.closure.proofs.Distance.{wider}
 use Rattle.tables.specs.Records.{PropositionRecord, equality_kind}
-use Rattle.tables.specs.PropositionTable.{sides_below, proposition_offset_within}
+use Rattle.tables.proofs.PropositionTable.{sides_below, proposition_offset_within}
 use Rattle.tables.specs.Rows.{proposition_in}
 use Rattle.unionfind.specs.declared.Joining.{Joining}
 use Rattle.unionfind.specs.Forest.{Equated}

@@ -8,8 +8,8 @@ use mir.Val.{Fits}
 use mir.ValLaws.{to_z-of_z}
 use borrow.Author.Rules.{rules, sfits_of}
 use Rattle.labels.specs.Spread.{far}
-use Rattle.closure.specs.Distance.{wider}
-use Rattle.tables.specs.PropositionTable.{sides_below, proposition_offset_within}
+use Rattle.closure.proofs.Distance.{wider}
+use Rattle.tables.proofs.PropositionTable.{sides_below, proposition_offset_within}
 use Rattle.consistency.specs.Live.{dropped, marked}
 use Rattle.consistency.specs.Deciding.{right, judged_disequality, judged_blocks}
 use Rattle.consistency.proofs.facts.is_refuted.Statement.{statement}

@@ -2,7 +2,7 @@
 use mathlib.Core.Path.{sym}
 use native.Mathlib.Omega.{arith}
 use lib.Seq.{length-take-le}
-use Rattle.text.specs.FrameLaws.{line_long}
+use Rattle.text.proofs.FrameLaws.{line_long}
 use borrow.Author.Rules.{rules}
 use Rattle.lines.proofs.line.judge_line.Statement.{statement}
 use Rattle.lines.proofs.line.judge_line.Tie as tie

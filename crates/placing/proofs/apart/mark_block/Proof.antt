@@ -5,7 +5,7 @@ use lib.ListN.{length}
 use borrow.Author.Rules.{rules}
 use Rattle.tables.specs.Records.{PropositionRecord}
 use Rattle.tables.specs.Rows.{proposition_in}
-use Rattle.tables.specs.PropositionTable.{sides_below}
+use Rattle.tables.proofs.PropositionTable.{sides_below}
 use Rattle.marking.specs.Marks.{adds_none, adds_as}
 use Rattle.placing.specs.Apart.{BlockPair}
 use Rattle.placing.proofs.apart.mark_block.Statement.{statement}

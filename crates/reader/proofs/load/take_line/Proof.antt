@@ -1,6 +1,6 @@
 -- `reader::load::take_line` meets its contract: the refusal, or the stored record, is that of the definition's step.
 use mathlib.Core.Path.{sym, ◌∙◌}
-use Rattle.text.specs.Laws.{step_unended}
+use Rattle.text.proofs.Laws.{step_unended}
 use Rattle.frames.specs.Rows.{listing_rows_with}
 use Rattle.reader.specs.Loading.{step_refused, went}
 use borrow.Author.Rules.{rules}

@@ -14,8 +14,10 @@ use Rattle.types.specs.declared.Blame.{Blame}
 use Rattle.types.specs.declared.Blame.TheVariants.{Asked, NotAsked}
 use Rattle.types.specs.Numbers.{number_of_answer}
 use Rattle.closure.specs.Facts.{Facts, facts}
-use Rattle.closure.specs.Join.{Label, placed, own, length_own}
-use Rattle.closure.specs.Closure.{closure, length_closure}
+use Rattle.closure.specs.Join.{Label, placed, own}
+use Rattle.closure.proofs.Join.{length_own}
+use Rattle.closure.specs.Closure.{closure}
+use Rattle.closure.proofs.Closure.{length_closure}
 use Rattle.closure.specs.Verdict.{contradictory}
 use Rattle.outcome.specs.Blame.{kept_contradictory, drop_below, blame}
 use Rattle.outcome.specs.PairBits.{bit_value, pair_bytes, pair_bits}

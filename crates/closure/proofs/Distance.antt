@@ -3,15 +3,17 @@ use Rattle.std.specs.Prelude.{ℕ, zero, suc, ◌*◌, ◌^◌, ◌<◌, ◌≤�
 use Rattle.std.proofs.Common.{arith, mul-le-mul_right, lit<}
 use Rattle.rules.specs.Terms.{Term, Given, WellFormed}
 use Rattle.rules.specs.Rules.{Equal}
-use Rattle.rules.specs.Soundness.{equal_holds}
+use Rattle.rules.proofs.Soundness.{equal_holds}
 use Rattle.integers.specs.Within.{Within}
 use Rattle.labels.specs.Spread.{Spread, spread_bound}
 use Rattle.labels.specs.Steps.{Bounded}
 use Rattle.closure.specs.Facts.{Facts, Lists}
-use Rattle.closure.specs.Join.{placed, own_spread, join_spread}
-use Rattle.closure.specs.Closure.{closure, closure_keeps}
-use Rattle.closure.specs.Verdict.{contradictory, closure_canonical}
-
+use Rattle.closure.specs.Join.{placed}
+use Rattle.closure.proofs.Join.{own_spread, join_spread}
+use Rattle.closure.specs.Closure.{closure}
+use Rattle.closure.proofs.Closure.{closure_keeps}
+use Rattle.closure.specs.Verdict.{contradictory}
+use Rattle.closure.proofs.Verdict.{closure_canonical}
 pub wider : {B C : ℕ} {z : ℤ} → B ≤ C → Within B z → Within C z
 wider h w = record { above = omega (arith, w.above); below = omega (arith, w.below) }
 

@@ -11,10 +11,9 @@ use Rattle.tables.specs.Records.{TermRecord, PropositionRecord}
 use Rattle.tables.specs.Refusals.{term_fault, proposition_fault, question_fault}
 use Rattle.text.specs.Lines.{Line, lines_of}
 use Rattle.text.specs.Frames.{Frame, term, proposition, question}
-use Rattle.text.specs.FrameLaws.{Formed, line_formed}
+use Rattle.text.proofs.FrameLaws.{Formed, line_formed}
 use Rattle.text.specs.Reading.{Records, nothing, is_empty, accepted, with_frame, Step, refuse, go_on, step, after, read_lines, reading}
-use Rattle.text.specs.Laws.{step_frame_lem, Admitted, frame_admitted}
-
+use Rattle.text.proofs.Laws.{step_frame_lem, Admitted, frame_admitted}
 pub record Sound (R : Records) : Type 0 where
   pub few_terms : length R.terms ≤ most
   pub few_propositions : length R.propositions ≤ most

@@ -7,10 +7,10 @@ use Rattle.types.specs.declared.Refusal.TheVariants.{Malformed}
 use Rattle.tables.specs.Limits.{most}
 use Rattle.text.specs.Lines.{Line, lf, bytes_of, before, lines_of}
 use Rattle.text.specs.Frames.{Frame, term, proposition, question, frame_of, frame_of_bytes}
-use Rattle.text.specs.FrameLaws.{frame_bytes, characters_size, line_framed, line_long}
+use Rattle.text.proofs.FrameLaws.{frame_bytes, characters_size, line_framed, line_long}
 use Rattle.tables.specs.Refusals.{Fault}
 use Rattle.text.specs.Reading.{Records, nothing, accepted, refused, with_frame, Step, refuse, go_on, step_frame, step, after, read_lines, reading}
-use Rattle.text.specs.Laws.{step_frame_lem, Admitted, frame_admitted, step_unended}
+use Rattle.text.proofs.Laws.{step_frame_lem, Admitted, frame_admitted, step_unended}
 use Rattle.text.specs.Output.{judged, reading_frames, output}
 
 -- the bytes of the longest accepted text: 512 terms of 15 bytes, 512 propositions and 512 questions of 19

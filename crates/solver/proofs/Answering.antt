@@ -12,8 +12,10 @@ use Rattle.outcome.specs.PairBits.{pair_bytes}
 use Rattle.outcome.specs.Outcome.{outcome}
 use Rattle.tables.specs.Limits.{most}
 use Rattle.tables.specs.Sets.{terms_in, propositions_in}
-use Rattle.tables.specs.TableFaults.{Tables, acceptance, sizes_fault, records_fault, Sized, sized}
-use Rattle.tables.specs.Memory.{Memory, memory_fault, call_fault, EnoughFor, enough, memory_with}
+use Rattle.tables.specs.TableFaults.{Tables, acceptance, sizes_fault, records_fault, Sized}
+use Rattle.tables.proofs.TableFaults.{sized}
+use Rattle.tables.specs.Memory.{Memory, memory_fault, call_fault, EnoughFor, memory_with}
+use Rattle.tables.proofs.Memory.{enough}
 use Rattle.refusals.specs.FirstFault.{accepts, refuses}
 use Rattle.refusals.specs.Parts.{counted, parts_fault}
 use Rattle.columns.specs.Telling.{questions_in}

@@ -19,11 +19,12 @@ use Rattle.lists.specs.Counting.{count_less}
 use Rattle.rules.specs.Terms.{Term, deref, Comparison, Given, WellFormed}
 use Rattle.rules.specs.Rules.{Equal, Apart, Different}
 use Rattle.rules.specs.Assignments.{Placement}
-use Rattle.rules.specs.Soundness.{equal_holds}
+use Rattle.rules.proofs.Soundness.{equal_holds}
 use Rattle.labels.specs.Labelling.{class_equal}
 use Rattle.labels.specs.Unique.{Canonical}
 use Rattle.closure.specs.Facts.{Facts, Lists, Pair, pair, comparison}
-use Rattle.closure.specs.Closure.{Deref, derefs, in_derefs, derefs_in}
+use Rattle.closure.specs.Closure.{Deref, derefs}
+use Rattle.closure.proofs.Closure.{in_derefs, derefs_in}
 use Rattle.closure.specs.Differences.{distance, Two, addresses, classes_are, apart, is_other_offset, between, unequal, different_at, different_by, values_differ, addresses_differ, draws, with_drawn, draw, undrawn, twos, drawn, different}
 
 -- the distance of the mirror image

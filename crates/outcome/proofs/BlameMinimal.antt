@@ -12,7 +12,8 @@ use Rattle.rules.specs.Rules.{Contradiction}
 use Rattle.rules.specs.Monotone.{Sub, contradiction_more, well_formed_less}
 use Rattle.labels.specs.Relabel.{same_or_not}
 use Rattle.closure.specs.Facts.{facts, lists}
-use Rattle.closure.specs.Verdict.{contradictory, contradiction_exact}
+use Rattle.closure.specs.Verdict.{contradictory}
+use Rattle.closure.proofs.Verdict.{contradiction_exact}
 use Rattle.outcome.specs.Blame.{kept_contradictory, drop_below, blame}
 
 -- each mark of a is one of b

@@ -8,7 +8,7 @@ use Rattle.lists.specs.Search.{choose}
 use Rattle.tables.specs.Records.{variable_kind, auxiliary_kind, equality_kind, disequality_kind, offset_in_range, atom_record, term_of, proposition_of, question_of}
 use Rattle.tables.specs.Refusals.{malformed}
 use Rattle.text.specs.Lines.{Line, digit, cons_byte, bytes_of, big, signed}
-use Rattle.text.specs.Digits.{digit_only}
+use Rattle.text.proofs.Digits.{digit_only}
 use Rattle.text.specs.Frames.{Frame, term, proposition, question, Layout, field, atom, dereference, relation, blocks, asked, layouts, frame_by, frame_of_bytes, frame_of}
 
 cons_byte_some : (a b : Option ℕ) (r : Option (List ℕ)) (bs : List ℕ)

@@ -8,7 +8,8 @@ use Rattle.std.proofs.Math.ListN.{length}
 use Rattle.std.proofs.lemmas.List.{get_or-replicate}
 use Rattle.integers.specs.Within.{Within}
 use Rattle.lists.specs.Items.{Item, item_below}
-use Rattle.lists.specs.Overwrite.{overwrite, overwritten, take_overwrite, overwrite_keeps}
+use Rattle.lists.specs.Overwrite.{overwrite}
+use Rattle.lists.proofs.Overwrite.{overwritten, take_overwrite, overwrite_keeps}
 use Rattle.types.specs.declared.Blame.{Blame}
 use Rattle.types.specs.declared.Fault.{Fault}
 use Rattle.types.specs.declared.Solved.{Solved}
@@ -18,23 +19,25 @@ use Rattle.types.specs.Numbers.{number_of_answer}
 use Rattle.rules.specs.Terms.{Term, Proposition, Comparison, listed, WellFormed}
 use Rattle.rules.specs.Rules.{Equal, Different, Contradiction}
 use Rattle.rules.specs.Assignments.{Placement, Holds, Differs, Assignment}
-use Rattle.rules.specs.Soundness.{equal_holds, no_contradiction}
+use Rattle.rules.proofs.Soundness.{equal_holds, no_contradiction}
 use Rattle.closure.specs.Facts.{facts, lists}
-use Rattle.closure.specs.Distance.{largest_distance}
+use Rattle.closure.proofs.Distance.{largest_distance}
 use Rattle.closure.specs.Verdict.{contradictory}
 use Rattle.outcome.specs.PairBits.{bit_of, pair_bytes}
 use Rattle.outcome.specs.Marks.{marked, tried}
 use Rattle.outcome.specs.Outcome.{Outcome, outcome, with_blame}
-use Rattle.outcome.specs.Lengths.{Lengths, outcome_lengths, length_marks}
-use Rattle.outcome.specs.Demands as outcomes
+use Rattle.outcome.proofs.Lengths.{Lengths, outcome_lengths, length_marks}
+use Rattle.outcome.proofs.Demands as outcomes
 use Rattle.tables.specs.Limits.{most, offset_limit}
 use Rattle.tables.specs.Rows.{term_in, proposition_in, question_in}
 use Rattle.tables.specs.RefusalLaws.{or_else_none}
-use Rattle.tables.specs.PropositionTable.{well_formed_from, bounded_from}
-use Rattle.tables.specs.QuestionTable.{question_sides}
-use Rattle.tables.specs.TableFaults as faults
-use Rattle.tables.specs.TableFaults.{Tables, sizes_fault, records_fault, tables_fault, Accepted, unrefused}
-use Rattle.tables.specs.Memory.{Memory, call_fault, memory_fault, Beyond, passed, memory_with}
+use Rattle.tables.proofs.PropositionTable.{well_formed_from, bounded_from}
+use Rattle.tables.proofs.QuestionTable.{question_sides}
+use Rattle.tables.proofs.TableFaults as faults
+use Rattle.tables.specs.TableFaults.{Tables, sizes_fault, records_fault, tables_fault, Accepted}
+use Rattle.tables.proofs.TableFaults.{unrefused}
+use Rattle.tables.specs.Memory.{Memory, call_fault, memory_fault, Beyond, memory_with}
+use Rattle.tables.proofs.Memory.{passed}
 use Rattle.solver.specs.Call.{terms_of, propositions_of, questions_of, length_terms, run, run_with, run_lengths, used, solved_by, returned, left, Answered, unasked, verdict_of}
 use Rattle.solver.specs.Verdict.{verdict_when}
 

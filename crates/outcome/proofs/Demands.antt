@@ -19,20 +19,24 @@ use Rattle.rules.specs.Terms.{Term, Proposition, Comparison, listed, WellFormed}
 use Rattle.rules.specs.Rules.{Equal, Different, Contradiction}
 use Rattle.rules.specs.Assignments.{Placement, Holds, Differs, Assignment}
 use Rattle.rules.specs.Monotone.{well_formed_less}
-use Rattle.rules.specs.Soundness.{equal_holds, different_differs}
+use Rattle.rules.proofs.Soundness.{equal_holds, different_differs}
 use Rattle.labels.specs.Unique.{Canonical, canonical_equal}
 use Rattle.closure.specs.Facts.{facts, lists}
-use Rattle.closure.specs.Join.{Label, placed, own, length_own, own_at, rep_at, off_at}
-use Rattle.closure.specs.Closure.{closure, length_closure}
-use Rattle.closure.specs.Verdict.{holds, holds_true, true_holds, contradictory, contradiction_exact, contradiction_no_assignment, verdict_satisfiable, closure_canonical}
+use Rattle.closure.specs.Join.{Label, placed, own}
+use Rattle.closure.proofs.Join.{length_own, own_at, rep_at, off_at}
+use Rattle.closure.specs.Closure.{closure}
+use Rattle.closure.proofs.Closure.{length_closure}
+use Rattle.closure.specs.Verdict.{holds, contradictory}
+use Rattle.closure.proofs.Verdict.{holds_true, true_holds, contradiction_exact, contradiction_no_assignment, verdict_satisfiable, closure_canonical}
 use Rattle.closure.specs.Differences.{different}
-use Rattle.closure.specs.Different.{different_exact}
+use Rattle.closure.proofs.Different.{different_exact}
 use Rattle.outcome.specs.Blame.{kept_contradictory, blame}
-use Rattle.outcome.specs.BlameMinimal.{some_of, kept_exact, blame_contradictory, blame_less}
-use Rattle.outcome.specs.BlameOrder.{tried_marks, select_tried, blame_order}
-use Rattle.outcome.specs.Lengths.{length_blame}
+use Rattle.outcome.proofs.BlameMinimal.{some_of, kept_exact, blame_contradictory, blame_less}
+use Rattle.outcome.proofs.BlameOrder.{tried_marks, select_tried, blame_order}
+use Rattle.outcome.proofs.Lengths.{length_blame}
 use Rattle.outcome.specs.Marks.{marked, tried, marked_all, marked_without, tried_select, mark_at}
-use Rattle.outcome.specs.PairBits.{bit_of, bit_value, bit_value_below, pair_bytes, pair_bit_lem, unused_bit}
+use Rattle.outcome.specs.PairBits.{bit_of, bit_value, pair_bytes}
+use Rattle.outcome.proofs.PairBits.{bit_value_below, pair_bit_lem, unused_bit}
 use Rattle.outcome.specs.Outcome.{Outcome, outcome, satisfiable, contradiction, answer as answer_of}
 
 bit_true : (b : Bool) → bit_value b ≡ 1 → b ≡ true

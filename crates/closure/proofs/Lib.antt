@@ -1,0 +1,5 @@
+pub mod Join
+pub mod Closure
+pub mod Verdict
+pub mod Different
+pub mod Distance
