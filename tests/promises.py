@@ -52,6 +52,10 @@ class Check:
         self.passed = self.failed = 0
         self.known = set(self.crates) | KIT
         self.declared = {path: self.names(file) for path, file in self.specs.items()}
+        for path, names in list(self.declared.items()):
+            if path.parts[2] == "proofs":
+                there = Path("crates", path.parts[1], "specs", path.name)
+                self.declared[there] = self.declared.get(there, set()) | names
         self.declared |= {path: set(DECLARED.findall(text)) for path, text in self.sources.items()}
         for names in self.declared.values():
             self.known |= names
@@ -75,6 +79,7 @@ class Check:
             print(f"FAIL {what}")
 
     def place(self, crate, rest):
+        """A file of src/, or of specs/; laws may stand in a file of the same name in proofs/."""
         return Path("crates", crate, rest) if rest.startswith("src/") else Path("crates", crate, "specs", rest).with_suffix(".antt")
 
     def exists(self, line, name):

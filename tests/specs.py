@@ -100,13 +100,13 @@ def uses(lines):
 
 def spec_path(module):
     """The file of a module of ours, or None; of a type that the code declares, its crate and name."""
-    match = re.match(r"Rattle\.(\w+)\.specs\.(.*)$", module)
+    match = re.match(r"Rattle\.(\w+)\.(specs|proofs)\.(.*)$", module)
     if not match or match[1] not in listed_crates():
         return None
-    crate, rest = match.groups()
+    crate, part, rest = match.groups()
     if rest.startswith("declared."):
         return crate, [part for part in rest.split(".")[1:] if part != "TheVariants"][-1]
-    return Path("crates", crate, "specs", *rest.split(".")).with_suffix(".antt")
+    return Path("crates", crate, part, *rest.split(".")).with_suffix(".antt")
 
 
 @cache
@@ -122,7 +122,9 @@ def files(part, ending):
 
 
 def all_specs():
-    return {path: File(path) for path in files("specs", "*.antt")}
+    """The files of specs, and those of laws that stand in proofs/ beside the proofs of functions."""
+    laws = [path for path in files("proofs", "*.antt") if len(path.parts) == 4 and path.stem != "Lib"]
+    return {path: File(path) for path in files("specs", "*.antt") + laws}
 
 
 def all_sources():
