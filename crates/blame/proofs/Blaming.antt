@@ -21,6 +21,7 @@ use Rattle.blame.specs.Kept.{AllKept, decided_kept, kept_is_contradictory, kept_
 use Rattle.blame.specs.Runs.{set_run, length_run, run_below, run_inside, run_above, run_is, run_none, run_one, run_both, run_back}
 use Rattle.blame.specs.Dropping.{drop_run, drop_none}
 use Rattle.blame.specs.Blaming.{MarkedSet, marks_of_blame, is_droppable, tried_run, Trying, Turn, BlamedIn, Halving}
+
 pub length_blame_marks : (S : Set) → length (marks_of_blame S) ≡ S.propositions
 length_blame_marks S =
     length-map (blame (terms_in S) (propositions_in S)) bit_value ∙ (length_blame (terms_in S) (propositions_in S) ∙ length_propositions_from S.propositions S.proposition)

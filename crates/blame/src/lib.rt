@@ -8,6 +8,7 @@ ghost use Rattle.tables.specs.Sets.{set_of};
 ghost use Rattle.blame.specs.Kept.{AllKept};
 ghost use Rattle.blame.specs.Runs.{set_run};
 ghost use Rattle.blame.specs.Blaming.{MarkedSet, is_droppable, tried_run, BlamedIn, marks_of_blame};
+
 use consistency::is_consistent;
 use memory::fill;
 use tables::{PropositionRow, TermRow};

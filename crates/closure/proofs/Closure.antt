@@ -20,6 +20,7 @@ use Rattle.closure.specs.Facts.{Facts, Lists, comparison}
 use Rattle.closure.specs.Join.{Label, placed, own, join, total}
 use Rattle.closure.proofs.Join.{length_own, length_join, join_keeps, join_joins, join_state, own_state, join_lowers}
 use Rattle.closure.specs.Closure.{Deref, as_deref, derefs, is_same_address, OneAddress, unjoined, join_all, continue, close, rounds, closure}
+
 deref_of : (k : ℕ) (t : Term) (d : Deref) → as_deref k t ≡ some d → (t ≡ deref d.offset d.inner) × (k ≡ d.term)
 deref_of k (variable x) d e = (cc, cc)
 deref_of k (auxiliary x) d e = (cc, cc)

@@ -14,6 +14,7 @@ use Rattle.closure.specs.Closure.{closure}
 use Rattle.closure.proofs.Closure.{closure_keeps}
 use Rattle.closure.specs.Verdict.{contradictory}
 use Rattle.closure.proofs.Verdict.{closure_canonical}
+
 pub wider : {B C : ℕ} {z : ℤ} → B ≤ C → Within B z → Within C z
 wider h w = record { above = omega (arith, w.above); below = omega (arith, w.below) }
 

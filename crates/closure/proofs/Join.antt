@@ -12,6 +12,7 @@ use Rattle.labels.specs.Relabel.{Relabelled, same_or_not, keeps_block, joins_blo
 use Rattle.labels.specs.Spread.{Spread}
 use Rattle.labels.specs.Steps.{State, Step, reversed, Bounded, joined_state, joined_spread, Fresh, fresh_state, fresh_spread}
 use Rattle.closure.specs.Join.{Label, unlabelled, placed, own, relabel, link, join, total}
+
 pub length_own : (t n : ℕ) → length (own t n) ≡ n
 unfolding own
 length_own t zero = refl
@@ -91,7 +92,6 @@ join_joins l a z b ha hb =
     (λ h. h)
 
 module _ (ts : List Term) (G : Given) (wf : WellFormed ts G) where
-
   module _ (l : List Label) (long : length l ≡ length ts) {a b : ℕ} {z : ℤ} (s : Step ts G (placed l) a z b) (S : State ts G (placed l)) where
     relabels_terms : (a : ℕ) (z : ℤ) (b : ℕ) → Relabelled (length ts) (placed l) (placed (link l a z b)) ((placed l).block a) (z +ℤ (placed l).position b -ℤ (placed l).position a) ((placed l).block b)
     relabels_terms a z b = rw long at (link_relabels l a z b)

@@ -21,6 +21,7 @@ use Rattle.closure.specs.Join.{placed}
 use Rattle.closure.specs.Closure.{Deref, derefs, is_same_address, OneAddress, closure}
 use Rattle.closure.proofs.Closure.{in_derefs, derefs_in, same_address_true, one_address, closure_closed}
 use Rattle.closure.specs.Verdict.{holds, together, clash, conflicting, contradictory}
+
 pub holds_true : (P : Placement) (c : Comparison) → holds P c ≡ true → Holds P c.left c.offset c.right
 unfolding holds
 holds_true P c e =

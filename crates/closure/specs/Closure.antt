@@ -18,6 +18,7 @@ use Rattle.rules.specs.Assignments.{Placement}
 use Rattle.labels.specs.Steps.{State, Step, by_equality, by_congruence, Closed}
 use Rattle.closure.specs.Facts.{Facts, Lists, comparison}
 use Rattle.closure.specs.Join.{Label, placed, own, join, total}
+
 -- a listed dereference: its number, its offset and the term inside
 pub record Deref : Type 0 where
   pub term : ℕ

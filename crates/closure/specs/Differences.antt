@@ -9,6 +9,7 @@ use Rattle.rules.specs.Terms.{Term, Comparison}
 use Rattle.rules.specs.Assignments.{Placement}
 use Rattle.closure.specs.Facts.{Facts, Pair, pair, comparison}
 use Rattle.closure.specs.Closure.{Deref, derefs}
+
 -- how far t1 stands above z + t2
 abbrev pub distance : Placement → ℕ → ℤ → ℕ → ℤ
 distance P t1 z t2 = P.position t1 -ℤ (z +ℤ P.position t2)

@@ -19,6 +19,7 @@ use Rattle.labels.specs.Steps.{Closed}
 use Rattle.closure.specs.Facts.{Facts, Lists, Pair, comparison}
 use Rattle.closure.specs.Join.{placed}
 use Rattle.closure.specs.Closure.{Deref, derefs, is_same_address, OneAddress, closure}
+
 -- the comparison holds as an equality
 unfoldable pub holds : Placement → Comparison → Bool
 holds P c = eqb (P.block c.left) (P.block c.right) && eq_ℤ (P.position c.left) (c.offset +ℤ P.position c.right)

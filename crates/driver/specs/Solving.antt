@@ -22,6 +22,7 @@ use Rattle.text.proofs.OutputSize.{outcome_size}
 use Rattle.writer.specs.Frames.{set_frames}
 use Rattle.solver.specs.Call.{terms_of, propositions_of, questions_of, length_terms, length_propositions, length_questions, run, run_with, solved_by, used, Answered}
 use Rattle.solver.proofs.Demands.{used_run, beyond_kept, refused_exactly}
+
 abbrev pub zero_memory : Memory
 zero_memory = memory_of (replicate most 0) (replicate most (pos 0)) (replicate most 0) (replicate 32768 0) (replicate most 0)
 

@@ -5,6 +5,7 @@ use Rattle.std.proofs.Math.ListN.{get_or-append}
 use Rattle.std.proofs.Math.Seq.{drop-length, take-append_seam, drop-append_seam, append_snoc}
 use Rattle.std.proofs.lemmas.List.{set_at}
 use Rattle.lists.specs.Overwrite.{overwrite, Keeps}
+
 module _ {A : Type 0} (new old : List A) where
   pub length_overwrite : length new ≤ length old → length (overwrite new old) ≡ length old
   length_overwrite h = length-append new (drop (length new) old) ∙ omega (arith, length-drop (length new) old)

@@ -6,6 +6,7 @@ ghost use Rattle.std.specs.Prelude.{◌≡◌, ◌≤◌, length, replicate};
 ghost use Rattle.tables.specs.Limits.{most};
 ghost use Rattle.tables.specs.TableFaults.{acceptance};
 ghost use Rattle.tables.specs.Memory.{room_fault};
+
 use types::{Acceptance, Refusal, refuse};
 
 // 8 for lent memory of fewer cells than n terms, m propositions and q questions need.

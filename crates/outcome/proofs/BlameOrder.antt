@@ -12,6 +12,7 @@ use Rattle.rules.specs.Terms.{Term, Proposition, listed, WellFormed}
 use Rattle.labels.specs.Relabel.{same_or_not}
 use Rattle.outcome.specs.Blame.{kept_contradictory, drop_below, blame}
 use Rattle.outcome.proofs.BlameMinimal.{unmarked, kept_more, dropped}
+
 -- the marks of those that are kept when number k is tried, without it
 unfoldable pub tried_marks : ℕ → List Bool → List Bool
 tried_marks zero l = false ∷ drop 1 l

@@ -4,6 +4,7 @@ use Rattle.std.proofs.Common.{◌∙◌, arith, shr-shr, lt-ltb, le-ltb}
 use Rattle.std.proofs.Math.Arith.{digits_lt, digits_div, digits_mod}
 use Rattle.lists.specs.Tabulate.{tabulate, tabulate_at}
 use Rattle.outcome.specs.PairBits.{bit_value, number, pair_bytes, pair_bit, pair_bits, bit_of}
+
 pub bit_value_below : (b : Bool) → bit_value b < 2
 bit_value_below true = omega arith
 bit_value_below false = omega arith

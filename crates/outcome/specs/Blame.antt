@@ -5,6 +5,7 @@ use Rattle.lists.specs.Tabulate.{select}
 use Rattle.rules.specs.Terms.{Term, Proposition}
 use Rattle.closure.specs.Facts.{facts}
 use Rattle.closure.specs.Verdict.{contradictory}
+
 -- the kept propositions are contradictory
 unfoldable pub kept_contradictory : List Term → List Proposition → List Bool → Bool
 kept_contradictory ts ps kept = contradictory ts (facts ts (select kept ps))

@@ -7,6 +7,7 @@ use Rattle.std.proofs.Common.{arith}
 use Rattle.std.proofs.Math.ListN.{take}
 use Rattle.lists.specs.Tabulate.{select}
 use Rattle.outcome.specs.PairBits.{bit_value}
+
 module _ {A : Type 0} where
   -- the items whose mark is 1
   unfoldable pub marked : List ℕ → List A → List A

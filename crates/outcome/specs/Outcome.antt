@@ -17,6 +17,7 @@ use Rattle.closure.specs.Verdict.{holds, contradictory}
 use Rattle.closure.specs.Differences.{different}
 use Rattle.outcome.specs.Blame.{blame}
 use Rattle.outcome.specs.PairBits.{bit_value, pair_bytes, pair_bits}
+
 pub record Outcome : Type 0 where
   pub verdict : Verdict
   pub representatives : List ℕ

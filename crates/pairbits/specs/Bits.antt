@@ -11,6 +11,7 @@ use Rattle.std.proofs.lemmas.Bool.{eqb-false}
 use Rattle.lists.specs.Tabulate.{tabulate, length_tabulate, tabulate_at}
 use Rattle.outcome.specs.PairBits.{bit_of, bit_value, number, pair_bit, pair_bits, pair_bytes}
 use Rattle.outcome.proofs.PairBits.{number_bit, pair_bit_lem, bit_value_below}
+
 -- the table with bit i set to 1
 unfoldable pub with_bit : List ℕ → ℕ → List ℕ
 with_bit bytes i = set bytes (i / 8) (bit_or (get_or bytes (i / 8) 0) (2 ^ (i % 8)))

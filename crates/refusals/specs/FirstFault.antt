@@ -13,6 +13,7 @@ use Rattle.types.specs.declared.Acceptance.TheVariants.{Accepted, Refused}
 use Rattle.tables.specs.Refusals.{Fault, fault, or_else, refuse_if, at_place, first_fault}
 use Rattle.tables.specs.RefusalLaws.{all_none}
 use Rattle.tables.specs.TableFaults.{acceptance}
+
 -- what the judgement of record k returns
 abbrev pub judged : ℕ → Option Refusal → Acceptance
 judged k o = acceptance (at_place k o none)

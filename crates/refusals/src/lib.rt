@@ -10,6 +10,7 @@ mod terms;
 ghost use Rattle.std.specs.Prelude.{◌≡◌, length};
 ghost use Rattle.tables.specs.Limits.{most};
 ghost use Rattle.tables.specs.TableFaults.{tables_of, lengths_fault, records_fault, tables_fault, acceptance};
+
 use propositions::check_propositions;
 use questions::check_questions;
 use tables::{PropositionRow, QuestionRow, TermRow};

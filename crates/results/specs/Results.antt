@@ -17,6 +17,7 @@ use Rattle.reader.specs.Passing.{read_sized}
 use Rattle.reader.specs.Facts.{read_place}
 use Rattle.solver.specs.Call.{Answered, verdict_of}
 use Rattle.solver.proofs.Demands.{refused_exactly, verdict_refused_exactly}
+
 -- the number of what `solve` returns, and the memory that it leaves
 pub record AnsweredNumber (b : Blame) (T : Tables) (M N : Memory) (r : ℕ) : Type 0 where
   pub solved : Solved

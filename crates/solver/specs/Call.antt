@@ -21,6 +21,7 @@ use Rattle.tables.specs.QuestionTable.{questions_from}
 use Rattle.tables.proofs.QuestionTable.{length_questions_from}
 use Rattle.tables.specs.TableFaults.{Tables, tables_of, tables_fault}
 use Rattle.tables.specs.Memory.{Memory, memory_with, call_fault}
+
 -- the set and the questions that accepted tables hold
 abbrev pub terms_of : Tables → List Term
 terms_of T = terms_from T.terms.count (term_in T.terms.rows)

@@ -42,6 +42,7 @@ use Rattle.columns.specs.Telling.{facts_in, pairs_by, answers_by, questions_in, 
 use Rattle.solver.specs.Solving.{Solves}
 use Rattle.blame.specs.Kept.{AllKept, is_contradictory, kept_listed, set_well_formed}
 use Rattle.blame.specs.Blaming.{marks_of_blame}
+
 module _ (S : Set) (good : AcceptedSet S) where
   abbrev ts : List Term
   ts = terms_in S

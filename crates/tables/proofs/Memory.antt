@@ -13,6 +13,7 @@ use Rattle.tables.specs.RefusalLaws.{or_else_none, fault_if_none, both_none, not
 use Rattle.tables.specs.TableFaults.{Tables, sizes_fault, records_fault, tables_fault, Sized, Accepted}
 use Rattle.tables.proofs.TableFaults.{sized, accepted, sizes_pass, records_pass}
 use Rattle.tables.specs.Memory.{Memory, memory_of, too_short, room_fault, memory_fault, call_fault, Enough, EnoughFor, Beyond, memory_with}
+
 pub enough : (T : Tables) (M : Memory) → memory_fault T M ≡ none → EnoughFor T M
 unfolding room_fault
 enough T M e =

@@ -14,6 +14,7 @@ use Rattle.tables.specs.QuestionTable.{questions_fault}
 use Rattle.tables.specs.TableFaults.{Tables, count_fault, lengths_fault, sizes_fault, records_fault, tables_fault}
 use Rattle.tables.proofs.TableFaults.{sized}
 use Rattle.tables.specs.Memory.{Memory, too_short, room_fault, memory_fault, call_fault}
+
 -- the place of a fault, if there is one, is at most n
 abbrev Upto : ℕ → Option Fault → Type 0
 Upto n o = (f : Fault) → o ≡ some f → f.place ≤ n

@@ -20,6 +20,7 @@ use Rattle.tables.specs.RefusalLaws.{or_else_none, refuse_if_none, malformed_non
 use Rattle.tables.specs.TermTable.{AcceptedTerms, terms_from}
 use Rattle.tables.proofs.TermTable.{length_terms_from, deref_earlier, default_some}
 use Rattle.tables.specs.PropositionTable.{propositions_fault, propositions_from, AcceptedPropositions}
+
 pub length_propositions_from : (m : ℕ) (rec : ℕ → PropositionRecord) → length (propositions_from m rec) ≡ m
 unfolding propositions_from
 length_propositions_from m rec = length_tabulate (λ k. or_default (block_disequality 0 0) (proposition_of (rec k))) 0 m

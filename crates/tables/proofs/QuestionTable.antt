@@ -14,6 +14,7 @@ use Rattle.tables.proofs.Stands.{range_fits, when_some}
 use Rattle.tables.specs.Refusals.{Fault, malformed, first_fault, question_name_fault, question_fault}
 use Rattle.tables.specs.RefusalLaws.{or_else_none, refuse_if_none, malformed_none}
 use Rattle.tables.specs.QuestionTable.{asked, questions_fault, questions_from, AcceptedQuestions}
+
 pub length_questions_from : (q : ℕ) (rec : ℕ → QuestionRecord) → length (questions_from q rec) ≡ q
 unfolding questions_from
 length_questions_from q rec = length_tabulate (λ k. asked (rec k)) 0 q

@@ -12,6 +12,7 @@ use Rattle.lists.specs.Booleans.{and_true}
 use Rattle.tables.specs.Limits.{atom_limit, offset_limit}
 use Rattle.tables.specs.Records.{TermRecord, PropositionRecord, variable_kind, auxiliary_kind, deref_kind, equality_kind, disequality_kind, block_disequality_kind, when, atom_record, offset_in_range, term_of, proposition_of}
 use Rattle.tables.specs.Stands.{kind_of, number_of, offset_of, StandsFor, proposition_kind_of, left_of, proposition_offset_of, right_of, Asserts}
+
 pub when_some : {A : Type 0} (b : Bool) (a x : A) → when b a ≡ some x → (b ≡ true) × (a ≡ x)
 when_some true a x e = (refl, cc)
 when_some false a x e = (cc, cc)

@@ -13,6 +13,7 @@ use Rattle.tables.specs.TermTable.{terms_fault, AcceptedTerms}
 use Rattle.tables.specs.PropositionTable.{propositions_fault, AcceptedPropositions}
 use Rattle.tables.specs.QuestionTable.{questions_fault, AcceptedQuestions}
 use Rattle.tables.specs.TableFaults.{acceptance, Table, Tables, tables_of, count_fault, lengths_fault, sizes_fault, records_fault, tables_fault, Sized, Accepted}
+
 pub sized : (limit : ℕ) (T : Tables) → sizes_fault limit T ≡ none → Sized limit T
 unfolding lengths_fault
 sized limit T e =

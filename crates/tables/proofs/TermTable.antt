@@ -21,6 +21,7 @@ use Rattle.tables.proofs.Stands.{stands_for, deref_within, deref_by_kind, variab
 use Rattle.tables.specs.Refusals.{Fault, refuse_if, malformed, first_fault, term_name_fault, term_fault}
 use Rattle.tables.specs.RefusalLaws.{or_else_none, refuse_if_none, malformed_none}
 use Rattle.tables.specs.TermTable.{term_fault_at, terms_fault, terms_from, AcceptedTerms}
+
 pub default_some : {A : Type 0} (d : A) (o : Option A) (x a : A) → o ≡ some a → x ≡ or_default d o → o ≡ some x
 default_some d none x a e f = cc
 default_some d (some b) x a e f = ap some (sym f)

@@ -11,6 +11,7 @@ use Rattle.tables.specs.Limits.{most}
 use Rattle.tables.specs.Refusals.{Fault, or_else, fault_if}
 use Rattle.tables.specs.RefusalLaws.{or_else_none, fault_if_none, both_none, not_faulty}
 use Rattle.tables.specs.TableFaults.{Tables, sizes_fault, records_fault, tables_fault, Sized, Accepted}
+
 pub record Memory : Type 0 where
   pub representatives : List ℕ
   pub offsets : List ℤ

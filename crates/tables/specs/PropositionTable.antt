@@ -18,6 +18,7 @@ use Rattle.tables.specs.Stands.{left_of, right_of, Asserts}
 use Rattle.tables.specs.Refusals.{Fault, malformed, first_fault, proposition_name_fault, proposition_fault}
 use Rattle.tables.specs.RefusalLaws.{or_else_none, refuse_if_none, malformed_none}
 use Rattle.tables.specs.TermTable.{AcceptedTerms, terms_from}
+
 -- the first fault of m records over n terms
 unfoldable pub propositions_fault : ℕ → ℕ → (ℕ → PropositionRecord) → Option Fault
 propositions_fault n m rec = first_fault (λ k. proposition_fault n (rec k)) 0 m

@@ -6,6 +6,7 @@ use Rattle.tables.specs.Records.{TermRecord, PropositionRecord}
 use Rattle.tables.specs.Rows.{Row, term_in, proposition_in}
 use Rattle.tables.specs.TermTable.{terms_from, AcceptedTerms}
 use Rattle.tables.specs.PropositionTable.{propositions_from, AcceptedPropositions}
+
 pub record Set : Type 0 where
   pub terms : ℕ
   pub term : ℕ → TermRecord

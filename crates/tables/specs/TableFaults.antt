@@ -12,6 +12,7 @@ use Rattle.tables.specs.RefusalLaws.{or_else_none, fault_if_none, none_at, both_
 use Rattle.tables.specs.TermTable.{terms_fault, AcceptedTerms}
 use Rattle.tables.specs.PropositionTable.{propositions_fault, AcceptedPropositions}
 use Rattle.tables.specs.QuestionTable.{questions_fault, AcceptedQuestions}
+
 -- what a test finds
 abbrev pub acceptance : Option Fault → Acceptance
 acceptance none = Acceptance.Accepted

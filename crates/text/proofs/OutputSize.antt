@@ -19,6 +19,7 @@ use Rattle.text.specs.Output.{line_of, verdict_frame, label_frame, label_frames,
 use Rattle.text.proofs.Size.{output_all}
 use Rattle.text.proofs.Sound.{accepted_sound}
 use Rattle.text.specs.OutputSize.{largest_output}
+
 pub length_hex : (bs : List ℕ) → length (hex_of bs) ≡ 2 * length bs
 unfolding hex_of
 length_hex [] = refl

@@ -14,6 +14,7 @@ use Rattle.text.specs.Frames.{Frame, term, proposition, question}
 use Rattle.text.proofs.FrameLaws.{Formed, line_formed}
 use Rattle.text.specs.Reading.{Records, nothing, is_empty, accepted, with_frame, Step, refuse, go_on, step, after, read_lines, reading}
 use Rattle.text.proofs.Laws.{step_frame_lem, Admitted, frame_admitted}
+
 pub record Sound (R : Records) : Type 0 where
   pub few_terms : length R.terms ≤ most
   pub few_propositions : length R.propositions ≤ most

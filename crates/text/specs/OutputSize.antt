@@ -16,6 +16,7 @@ use Rattle.tables.specs.Records.{or_default}
 use Rattle.text.specs.Lines.{lf, hex_of, bytes, unsigned}
 use Rattle.text.specs.Reading.{Reading, accepted, refused, reading}
 use Rattle.text.specs.Output.{line_of, verdict_frame, label_frame, label_frames, blame_frame, blame_if, cell_frames, answer_frame, answer_frames, refusal_frame, middle, outcome_frames, solved, reading_frames, output}
+
 -- a verdict, 512 terms of 27 bytes and 512 questions of 9
 abbrev pub largest_output : ℕ
 largest_output = 5 + most * 27 + most * 9
