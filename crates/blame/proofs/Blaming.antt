@@ -9,7 +9,6 @@ use Rattle.std.proofs.Math.ListN.{length, get_or}
 use Rattle.std.proofs.lemmas.List.{length-map}
 use Rattle.std.proofs.Math.Seq.{ext_get_or}
 use Rattle.lists.specs.Items.{item_map, get_d_item}
-use Rattle.lists.specs.Search.{choose}
 use Rattle.outcome.specs.Blame.{kept_contradictory, drop_below, blame}
 use Rattle.outcome.proofs.Lengths.{length_blame}
 use Rattle.outcome.specs.PairBits.{bit_value}
@@ -20,7 +19,7 @@ use Rattle.consistency.specs.Deciding.{Decided}
 use Rattle.blame.specs.Kept.{AllKept, decided_kept, kept_is_contradictory, kept_at, length_kept, kept_all, set_well_formed}
 use Rattle.blame.specs.Runs.{set_run, length_run, run_below, run_inside, run_above, run_is, run_none, run_one, run_both, run_back}
 use Rattle.blame.specs.Dropping.{drop_run, drop_none}
-use Rattle.blame.specs.Blaming.{MarkedSet, marks_of_blame, is_droppable, tried_run, Trying, Turn, BlamedIn, Halving}
+use Rattle.blame.specs.Blaming.{marks_of_blame, is_droppable, tried_run, Trying, BlamedIn}
 
 pub length_blame_marks : (S : Set) → length (marks_of_blame S) ≡ S.propositions
 length_blame_marks S =

@@ -1,25 +1,16 @@
 -- The marks while propositions are tried, a run at a time, from the highest number down.
-use Rattle.std.specs.Prelude.{ℕ, suc, ◌+◌, ◌-◌, ◌<◌, ◌≤◌, ◌≡◌, refl, Bool, true, not, ltb, ℤ, set}
-use Rattle.std.proofs.Math.Path.{sym, ap}
-use Rattle.std.proofs.Common.{◌∙◌, ltb-true, ltb-false}
+use Rattle.std.specs.Prelude.{ℕ, ◌+◌, ◌-◌, ◌<◌, ◌≤◌, ◌≡◌, Bool, true, ℤ, set}
+use Rattle.std.proofs.Common.{◌∙◌}
 use Rattle.std.proofs.Math.Bool.{false}
 use mathlib.Core.List.{List, map}
-use native.Mathlib.Omega.{arith}
 use Rattle.std.proofs.Math.ListN.{length, get_or}
-use Rattle.std.proofs.lemmas.List.{length-map}
-use Rattle.std.proofs.Math.Seq.{ext_get_or}
-use Rattle.lists.specs.Items.{item_map, get_d_item}
 use Rattle.lists.specs.Search.{choose}
-use Rattle.outcome.specs.Blame.{kept_contradictory, drop_below, blame}
-use Rattle.outcome.proofs.Lengths.{length_blame}
+use Rattle.outcome.specs.Blame.{drop_below, blame}
 use Rattle.outcome.specs.PairBits.{bit_value}
-use Rattle.tables.proofs.PropositionTable.{length_propositions_from}
 use Rattle.tables.specs.Sets.{Set, AcceptedSet, terms_in, propositions_in}
 use Rattle.consistency.specs.Live.{is_kept, kept_of}
-use Rattle.consistency.specs.Deciding.{Decided}
-use Rattle.blame.specs.Kept.{AllKept, decided_kept, kept_is_contradictory, kept_at, length_kept, kept_all, set_well_formed}
-use Rattle.blame.specs.Runs.{set_run, length_run, run_below, run_inside, run_above, run_is, run_none, run_one, run_both, run_back}
-use Rattle.blame.specs.Dropping.{drop_run, drop_none}
+use Rattle.blame.specs.Kept.{AllKept, kept_is_contradictory}
+use Rattle.blame.specs.Runs.{set_run}
 
 -- an accepted set, with a mark for each proposition and a label for each term
 pub record MarkedSet (S : Set) (marks reps : List ℕ) (offs : List ℤ) : Type 0 where

@@ -1,6 +1,6 @@
 -- Laws of specs/Closure.
 use Prim.Native.Nat.{ℕ, zero, suc, ◌+◌, ◌<◌, ◌≤◌}
-use Rattle.std.specs.Prelude.{◌≡◌, Bool, true, not, ◌&&◌, eqb, ℤ, pos, ◌+ℤ◌, length}
+use Rattle.std.specs.Prelude.{◌≡◌, true, eqb, ℤ, pos, length}
 use Rattle.std.proofs.Math.Path.{refl}
 use Rattle.std.proofs.Common.{◌∙◌}
 use Rattle.std.proofs.Math.Bool.{false}
@@ -8,11 +8,11 @@ use mathlib.Core.List.{List, [], ◌∷◌}
 use Rattle.std.proofs.Math.Option.{Option, none, some}
 use native.Mathlib.Omega.{arith}
 use borrow.Author.Tests.{eqb-true, eqb-false, eq-eqb, not-true, not-false}
-use Rattle.integers.specs.Compare.{eq_ℤ, eq_ℤ_true, eq_eq_ℤ}
+use Rattle.integers.specs.Compare.{eq_ℤ_true, eq_eq_ℤ}
 use Rattle.lists.specs.Booleans.{and_true, both_true}
 use Rattle.lists.specs.Items.{Item, In, not_in_empty, item_below}
 use Rattle.lists.specs.Search.{find_pair, find_pair_some, find_pair_none}
-use Rattle.lists.specs.Collect.{collect, in_collect, collect_in}
+use Rattle.lists.specs.Collect.{in_collect, collect_in}
 use Rattle.rules.specs.Terms.{Term, variable, auxiliary, deref, Comparison, Given, WellFormed}
 use Rattle.rules.specs.Assignments.{Placement}
 use Rattle.labels.specs.Steps.{State, Step, by_equality, by_congruence, Closed}

@@ -1,5 +1,5 @@
 -- Laws of specs/Join.
-use Rattle.std.specs.Prelude.{ℕ, zero, suc, ◌+◌, ◌<◌, ◌≤◌, ◌≡◌, refl, ◌≢◌, Bool, true, false, List, [], ◌∷◌, map, eqb, ltb, ℤ, pos, neg_ℤ, ◌+ℤ◌, ◌-ℤ◌, length, get_or}
+use Rattle.std.specs.Prelude.{ℕ, zero, suc, ◌+◌, ◌<◌, ◌≤◌, ◌≡◌, refl, ◌≢◌, Bool, true, false, List, [], ◌∷◌, map, ltb, ℤ, pos, neg_ℤ, ◌+ℤ◌, ◌-ℤ◌, length, get_or}
 use Rattle.std.proofs.Common.{sym, ◌∙◌, ⊎_elim, eq-eqb, ne_eqb, ltb-true, ltb-false}
 use Rattle.std.proofs.Math.Path.{ap}
 use native.Mathlib.Omega.{arith}
@@ -7,7 +7,6 @@ use Rattle.std.proofs.lemmas.List.{length-map}
 use Rattle.lists.specs.Items.{item_map, get_d_item}
 use Rattle.lists.specs.Search.{choose}
 use Rattle.rules.specs.Terms.{Term, Given, WellFormed}
-use Rattle.rules.specs.Assignments.{Placement}
 use Rattle.labels.specs.Relabel.{Relabelled, same_or_not, keeps_block, joins_block}
 use Rattle.labels.specs.Spread.{Spread}
 use Rattle.labels.specs.Steps.{State, Step, reversed, Bounded, joined_state, joined_spread, Fresh, fresh_state, fresh_spread}

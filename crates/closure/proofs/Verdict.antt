@@ -1,11 +1,11 @@
 -- Laws of specs/Verdict.
-use Rattle.std.specs.Prelude.{ℕ, ◌<◌, refl, ◌≢◌, ◌↔◌, Bool, true, ◌&&◌, ◌||◌, List, eqb, pos, ◌+ℤ◌, length}
+use Rattle.std.specs.Prelude.{ℕ, ◌<◌, refl, ◌≢◌, ◌↔◌, Bool, true, ◌||◌, List, eqb, pos, ◌+ℤ◌, length}
 use Rattle.std.proofs.Math.Path.{◌≡◌}
 use Rattle.std.proofs.Common.{arith}
 use Rattle.std.proofs.Math.Bool.{false, not}
 use Rattle.std.proofs.Math.Option.{Option, none, some}
 use borrow.Author.Tests.{eqb-true, eqb-false, eq-eqb, not-true, not-false}
-use Rattle.integers.specs.Compare.{eq_ℤ, eq_ℤ_true, eq_eq_ℤ}
+use Rattle.integers.specs.Compare.{eq_ℤ_true, eq_eq_ℤ}
 use Rattle.lists.specs.Booleans.{and_true, both_true, or_false}
 use Rattle.lists.specs.Items.{In, item_below}
 use Rattle.lists.specs.Search.{any, any_true, any_false, is_some, find_pair, find_pair_some, find_pair_none}
@@ -16,7 +16,7 @@ use Rattle.rules.proofs.Soundness.{no_contradiction}
 use Rattle.labels.specs.Labelling.{deref_equal, equal_conflict, unequal_conflict, apart_conflict}
 use Rattle.labels.specs.Unique.{Canonical, unique}
 use Rattle.labels.specs.Steps.{Closed}
-use Rattle.closure.specs.Facts.{Facts, Lists, Pair, comparison}
+use Rattle.closure.specs.Facts.{Facts, Lists, comparison}
 use Rattle.closure.specs.Join.{placed}
 use Rattle.closure.specs.Closure.{Deref, derefs, is_same_address, OneAddress, closure}
 use Rattle.closure.proofs.Closure.{in_derefs, derefs_in, same_address_true, one_address, closure_closed}

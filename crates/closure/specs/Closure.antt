@@ -1,22 +1,14 @@
 -- The closure under the given equalities and congruence, computed.
-use Prim.Native.Nat.{ℕ, zero, suc, ◌+◌, ◌<◌, ◌≤◌}
-use Rattle.std.specs.Prelude.{◌≡◌, Bool, true, not, ◌&&◌, eqb, ℤ, pos, ◌+ℤ◌, length}
-use Rattle.std.proofs.Math.Path.{refl}
-use Rattle.std.proofs.Common.{◌∙◌}
-use Rattle.std.proofs.Math.Bool.{false}
+use Prim.Native.Nat.{ℕ, zero, suc}
+use Rattle.std.specs.Prelude.{◌≡◌, Bool, not, ◌&&◌, eqb, ℤ, pos, ◌+ℤ◌, length}
 use mathlib.Core.List.{List, [], ◌∷◌}
 use Rattle.std.proofs.Math.Option.{Option, none, some}
-use native.Mathlib.Omega.{arith}
-use borrow.Author.Tests.{eqb-true, eqb-false, eq-eqb, not-true, not-false}
-use Rattle.integers.specs.Compare.{eq_ℤ, eq_ℤ_true, eq_eq_ℤ}
-use Rattle.lists.specs.Booleans.{and_true, both_true}
-use Rattle.lists.specs.Items.{Item, In, not_in_empty, item_below}
-use Rattle.lists.specs.Search.{find_pair, find_pair_some, find_pair_none}
-use Rattle.lists.specs.Collect.{collect, in_collect, collect_in}
-use Rattle.rules.specs.Terms.{Term, variable, auxiliary, deref, Comparison, Given, WellFormed}
+use Rattle.integers.specs.Compare.{eq_ℤ}
+use Rattle.lists.specs.Search.{find_pair}
+use Rattle.lists.specs.Collect.{collect}
+use Rattle.rules.specs.Terms.{Term, variable, auxiliary, deref, Comparison}
 use Rattle.rules.specs.Assignments.{Placement}
-use Rattle.labels.specs.Steps.{State, Step, by_equality, by_congruence, Closed}
-use Rattle.closure.specs.Facts.{Facts, Lists, comparison}
+use Rattle.closure.specs.Facts.{Facts}
 use Rattle.closure.specs.Join.{Label, placed, own, join, total}
 
 -- a listed dereference: its number, its offset and the term inside

@@ -1,24 +1,13 @@
 -- The verdict: the closure's labelling contradicts a given fact, or is an assignment.
-use Rattle.std.specs.Prelude.{ℕ, ◌<◌, refl, ◌≢◌, ◌↔◌, Bool, true, ◌&&◌, ◌||◌, List, eqb, pos, ◌+ℤ◌, length}
-use Rattle.std.proofs.Math.Path.{◌≡◌}
-use Rattle.std.proofs.Common.{arith}
-use Rattle.std.proofs.Math.Bool.{false, not}
-use Rattle.std.proofs.Math.Option.{Option, none, some}
-use borrow.Author.Tests.{eqb-true, eqb-false, eq-eqb, not-true, not-false}
-use Rattle.integers.specs.Compare.{eq_ℤ, eq_ℤ_true, eq_eq_ℤ}
-use Rattle.lists.specs.Booleans.{and_true, both_true, or_false}
-use Rattle.lists.specs.Items.{In, item_below}
-use Rattle.lists.specs.Search.{any, any_true, any_false, is_some, find_pair, find_pair_some, find_pair_none}
-use Rattle.rules.specs.Terms.{Term, Comparison, Given, WellFormed}
-use Rattle.rules.specs.Rules.{E0, Contradiction}
-use Rattle.rules.specs.Assignments.{Placement, Holds, Assignment}
-use Rattle.rules.proofs.Soundness.{no_contradiction}
-use Rattle.labels.specs.Labelling.{deref_equal, equal_conflict, unequal_conflict, apart_conflict}
-use Rattle.labels.specs.Unique.{Canonical, unique}
-use Rattle.labels.specs.Steps.{Closed}
-use Rattle.closure.specs.Facts.{Facts, Lists, Pair, comparison}
+use Rattle.std.specs.Prelude.{Bool, ◌&&◌, ◌||◌, List, eqb, pos, ◌+ℤ◌}
+use Rattle.std.proofs.Math.Bool.{not}
+use Rattle.integers.specs.Compare.{eq_ℤ}
+use Rattle.lists.specs.Search.{any, is_some, find_pair}
+use Rattle.rules.specs.Terms.{Term, Comparison}
+use Rattle.rules.specs.Assignments.{Placement}
+use Rattle.closure.specs.Facts.{Facts, Pair, comparison}
 use Rattle.closure.specs.Join.{placed}
-use Rattle.closure.specs.Closure.{Deref, derefs, is_same_address, OneAddress, closure}
+use Rattle.closure.specs.Closure.{Deref, derefs, is_same_address, closure}
 
 -- the comparison holds as an equality
 unfoldable pub holds : Placement → Comparison → Bool

@@ -1,9 +1,5 @@
 -- A list whose first cells are written.
-use Rattle.std.specs.Prelude.{ℕ, suc, ◌+◌, ◌<◌, ◌≤◌, ◌≡◌, List, [], ◌∷◌, ◌++◌, length, get_or, take, drop, set}
-use Rattle.std.proofs.Common.{◌∙◌, sym, append-nil, arith, add-one, length-append, length-drop, get_or-append-add, get_or-drop, drop-cons, take-suc, length-take-le}
-use Rattle.std.proofs.Math.ListN.{get_or-append}
-use Rattle.std.proofs.Math.Seq.{drop-length, take-append_seam, drop-append_seam, append_snoc}
-use Rattle.std.proofs.lemmas.List.{set_at}
+use Rattle.std.specs.Prelude.{ℕ, ◌≡◌, List, ◌++◌, length, drop}
 
 -- the first cells written, the others as they were
 abbrev pub overwrite {ℓ} : {A : Type ℓ} → List A → List A → List A

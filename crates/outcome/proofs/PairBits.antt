@@ -1,8 +1,8 @@
 -- Laws of specs/PairBits.
-use Rattle.std.specs.Prelude.{ℕ, zero, suc, ◌+◌, ◌*◌, ◌/◌, ◌%◌, ◌^◌, ◌<◌, ◌≤◌, ◌≡◌, Bool, true, false, ◌&&◌, List, ltb, get_or}
+use Rattle.std.specs.Prelude.{ℕ, zero, suc, ◌+◌, ◌*◌, ◌/◌, ◌%◌, ◌^◌, ◌<◌, ◌≤◌, ◌≡◌, Bool, true, false}
 use Rattle.std.proofs.Common.{◌∙◌, arith, shr-shr, lt-ltb, le-ltb}
 use Rattle.std.proofs.Math.Arith.{digits_lt, digits_div, digits_mod}
-use Rattle.lists.specs.Tabulate.{tabulate, tabulate_at}
+use Rattle.lists.specs.Tabulate.{tabulate_at}
 use Rattle.outcome.specs.PairBits.{bit_value, number, pair_bytes, pair_bit, pair_bits, bit_of}
 
 pub bit_value_below : (b : Bool) → bit_value b < 2

@@ -1,8 +1,6 @@
 -- The table of pair bits: bit i × n + j for the pair (i, j) of n terms, lowest bit of a byte first, unused bits 0.
-use Rattle.std.specs.Prelude.{ℕ, zero, suc, ◌+◌, ◌*◌, ◌/◌, ◌%◌, ◌^◌, ◌<◌, ◌≤◌, ◌≡◌, Bool, true, false, ◌&&◌, List, ltb, get_or}
-use Rattle.std.proofs.Common.{◌∙◌, arith, shr-shr, lt-ltb, le-ltb}
-use Rattle.std.proofs.Math.Arith.{digits_lt, digits_div, digits_mod}
-use Rattle.lists.specs.Tabulate.{tabulate, tabulate_at}
+use Rattle.std.specs.Prelude.{ℕ, zero, suc, ◌+◌, ◌*◌, ◌/◌, ◌%◌, ◌^◌, Bool, true, false, ◌&&◌, List, ltb, get_or}
+use Rattle.lists.specs.Tabulate.{tabulate}
 
 abbrev pub bit_value : Bool → ℕ
 bit_value true = 1

@@ -1,18 +1,14 @@
 -- Laws of specs/Memory.
-use Rattle.std.specs.Prelude.{ℕ, ◌≤◌, ◌≡◌, Bool, ◌||◌, List, ltb, ℤ, length}
-use Rattle.std.proofs.Math.Option.{Option, none}
+use Rattle.std.specs.Prelude.{◌≡◌}
+use Rattle.std.proofs.Math.Option.{none}
 use Rattle.std.proofs.Common.{ltb-false, le-ltb}
 use Rattle.lists.specs.Booleans.{or_false, both_false}
-use Rattle.lists.specs.Overwrite.{overwrite, Keeps}
-use Rattle.types.specs.declared.Refusal.TheVariants.{TooShort}
-use Rattle.outcome.specs.PairBits.{pair_bytes}
-use Rattle.outcome.specs.Outcome.{Outcome}
 use Rattle.tables.specs.Limits.{most}
-use Rattle.tables.specs.Refusals.{Fault, or_else, fault_if}
+use Rattle.tables.specs.Refusals.{or_else}
 use Rattle.tables.specs.RefusalLaws.{or_else_none, fault_if_none, both_none, not_faulty}
 use Rattle.tables.specs.TableFaults.{Tables, sizes_fault, records_fault, tables_fault, Sized, Accepted}
 use Rattle.tables.proofs.TableFaults.{sized, accepted, sizes_pass, records_pass}
-use Rattle.tables.specs.Memory.{Memory, memory_of, too_short, room_fault, memory_fault, call_fault, Enough, EnoughFor, Beyond, memory_with}
+use Rattle.tables.specs.Memory.{Memory, room_fault, memory_fault, call_fault, EnoughFor}
 
 pub enough : (T : Tables) (M : Memory) → memory_fault T M ≡ none → EnoughFor T M
 unfolding room_fault

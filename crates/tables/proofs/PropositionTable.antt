@@ -1,12 +1,12 @@
 -- Laws of specs/PropositionTable.
 use Rattle.std.specs.Prelude.{ℕ, ◌<◌, ◌≤◌, ◌≡◌, List, leb, length, get_or}
 use Rattle.std.proofs.Common.{sym, ◌∙◌, ap, ⊎_elim, arith, SFits}
-use Rattle.std.proofs.Math.Option.{Option, none, some}
+use Rattle.std.proofs.Math.Option.{some}
 use Rattle.std.specs.Int.{w32}
 use borrow.Author.Tests.{leb-false}
 use Rattle.lists.specs.Booleans.{or_false}
 use Rattle.lists.specs.Items.{Item, In, item_below, item_get_d, get_d_item}
-use Rattle.lists.specs.Tabulate.{tabulate, length_tabulate, from_zero, tabulate_ext}
+use Rattle.lists.specs.Tabulate.{length_tabulate, from_zero, tabulate_ext}
 use Rattle.types.specs.declared.Refusal.TheVariants.{PropositionTermNotListed}
 use Rattle.rules.specs.Terms.{Term, Proposition, equality, disequality, block_disequality, DistinctVariables, listed, WellFormed}
 use Rattle.integers.specs.Within.{Within}
@@ -15,11 +15,11 @@ use Rattle.tables.specs.Limits.{offset_limit}
 use Rattle.tables.specs.Records.{TermRecord, PropositionRecord, equality_kind, disequality_kind, block_disequality_kind, proposition_of, or_default}
 use Rattle.tables.specs.Stands.{left_of, right_of, Asserts}
 use Rattle.tables.proofs.Stands.{asserts, equality_by_kind, disequality_by_kind, block_by_kind, proposition_kind_at_most}
-use Rattle.tables.specs.Refusals.{Fault, malformed, first_fault, proposition_name_fault, proposition_fault}
+use Rattle.tables.specs.Refusals.{malformed, proposition_name_fault, proposition_fault}
 use Rattle.tables.specs.RefusalLaws.{or_else_none, refuse_if_none, malformed_none}
 use Rattle.tables.specs.TermTable.{AcceptedTerms, terms_from}
 use Rattle.tables.proofs.TermTable.{length_terms_from, deref_earlier, default_some}
-use Rattle.tables.specs.PropositionTable.{propositions_fault, propositions_from, AcceptedPropositions}
+use Rattle.tables.specs.PropositionTable.{propositions_from, AcceptedPropositions}
 
 pub length_propositions_from : (m : ℕ) (rec : ℕ → PropositionRecord) → length (propositions_from m rec) ≡ m
 unfolding propositions_from

@@ -1,19 +1,18 @@
 -- Laws of specs/QuestionTable.
-use Rattle.std.specs.Prelude.{ℕ, ◌<◌, ◌≡◌, List, leb, length}
+use Rattle.std.specs.Prelude.{ℕ, ◌<◌, ◌≡◌, leb, length}
 use Rattle.std.proofs.Common.{sym, ◌∙◌, ap, arith, SFits, leb-false}
-use Rattle.std.proofs.Math.Option.{Option, none}
 use Rattle.std.specs.Int.{w32}
 use Rattle.lists.specs.Booleans.{or_false}
 use Rattle.lists.specs.Items.{Item, item_below, item_get_d}
-use Rattle.lists.specs.Tabulate.{tabulate, length_tabulate, from_zero, tabulate_ext}
+use Rattle.lists.specs.Tabulate.{length_tabulate, from_zero, tabulate_ext}
 use Rattle.types.specs.declared.Refusal.TheVariants.{QuestionTermNotListed}
 use Rattle.types.specs.declared.QuestionRecord.{QuestionRecord}
 use Rattle.rules.specs.Terms.{Comparison}
 use Rattle.tables.specs.Records.{question_of, offset_in_range}
 use Rattle.tables.proofs.Stands.{range_fits, when_some}
-use Rattle.tables.specs.Refusals.{Fault, malformed, first_fault, question_name_fault, question_fault}
+use Rattle.tables.specs.Refusals.{malformed, question_name_fault, question_fault}
 use Rattle.tables.specs.RefusalLaws.{or_else_none, refuse_if_none, malformed_none}
-use Rattle.tables.specs.QuestionTable.{asked, questions_fault, questions_from, AcceptedQuestions}
+use Rattle.tables.specs.QuestionTable.{asked, questions_from, AcceptedQuestions}
 
 pub length_questions_from : (q : ℕ) (rec : ℕ → QuestionRecord) → length (questions_from q rec) ≡ q
 unfolding questions_from

@@ -1,5 +1,5 @@
 -- Laws of specs/Stands.
-use Rattle.std.specs.Prelude.{ℕ, ◌<◌, ◌≤◌, ◌≡◌, refl, ◌≢◌, Bool, true, false, ◌&&◌, eqb, ltb, ℤ, pos, negsuc}
+use Rattle.std.specs.Prelude.{◌<◌, ◌≤◌, ◌≡◌, refl, Bool, true, false, ◌&&◌, eqb, ltb, ℤ, pos, negsuc}
 use Rattle.std.proofs.Common.{arith, SFits, eqb-true, ltb-true}
 use Rattle.std.proofs.Math.Option.{some}
 use Rattle.std.specs.Int.{w32}

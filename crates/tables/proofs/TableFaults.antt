@@ -1,18 +1,13 @@
 -- Laws of specs/TableFaults.
-use Rattle.std.specs.Prelude.{ℕ, ◌≤◌, ◌≡◌, ◌||◌, List, ltb, length}
-use Rattle.std.proofs.Math.Option.{Option, none, some}
+use Rattle.std.specs.Prelude.{ℕ, ◌≡◌}
+use Rattle.std.proofs.Math.Option.{none}
 use Rattle.std.proofs.Common.{ltb-false, le-ltb}
 use Rattle.lists.specs.Booleans.{or_false, both_false}
-use Rattle.types.specs.declared.Refusal.{Refusal}
-use Rattle.types.specs.declared.Refusal.TheVariants.{TooManyTerms, TooManyPropositions, TooManyQuestions, TooShort}
-use Rattle.types.specs.declared.Acceptance.{Acceptance}
-use Rattle.tables.specs.Rows.{Row, term_in, proposition_in, question_in}
-use Rattle.tables.specs.Refusals.{Fault, or_else, fault_if}
 use Rattle.tables.specs.RefusalLaws.{or_else_none, fault_if_none, none_at, both_none, not_faulty, all_none}
-use Rattle.tables.specs.TermTable.{terms_fault, AcceptedTerms}
-use Rattle.tables.specs.PropositionTable.{propositions_fault, AcceptedPropositions}
-use Rattle.tables.specs.QuestionTable.{questions_fault, AcceptedQuestions}
-use Rattle.tables.specs.TableFaults.{acceptance, Table, Tables, tables_of, count_fault, lengths_fault, sizes_fault, records_fault, tables_fault, Sized, Accepted}
+use Rattle.tables.specs.TermTable.{terms_fault}
+use Rattle.tables.specs.PropositionTable.{propositions_fault}
+use Rattle.tables.specs.QuestionTable.{questions_fault}
+use Rattle.tables.specs.TableFaults.{Tables, lengths_fault, sizes_fault, records_fault, tables_fault, Sized, Accepted}
 
 pub sized : (limit : ℕ) (T : Tables) → sizes_fault limit T ≡ none → Sized limit T
 unfolding lengths_fault

@@ -1,5 +1,5 @@
 -- Laws of specs/TermTable.
-use Rattle.std.specs.Prelude.{ℕ, ◌<◌, ◌≤◌, ◌≡◌, ◌≢◌, ◌&&◌, List, ℤ, length, get_or}
+use Rattle.std.specs.Prelude.{ℕ, ◌<◌, ◌≤◌, ◌≡◌, ◌≢◌, ◌&&◌, ℤ, length, get_or}
 use Rattle.std.proofs.Common.{sym, ◌∙◌, ap, ⊎_elim, arith, SFits}
 use Rattle.std.proofs.Math.Bool.{false}
 use Rattle.std.proofs.Math.Option.{Option, none, some}
@@ -9,7 +9,6 @@ use borrow.Author.Tests.{eq-eqb, leb-false}
 use Rattle.lists.specs.Items.{Item, item_below, item_get_d, get_d_item}
 use Rattle.lists.specs.Search.{any, any_false}
 use Rattle.lists.specs.Tabulate.{tabulate, length_tabulate, from_zero, tabulate_ext}
-use Rattle.types.specs.declared.Refusal.{Refusal}
 use Rattle.types.specs.declared.Refusal.TheVariants.{InnerNotListed, AtomListedTwice}
 use Rattle.rules.specs.Terms.{Term, variable, auxiliary, deref}
 use Rattle.labels.specs.Relabel.{same_or_not}
@@ -18,9 +17,9 @@ use Rattle.tables.specs.Limits.{atom_limit, offset_limit}
 use Rattle.tables.specs.Records.{TermRecord, variable_kind, deref_kind, term_of, is_same_atom, or_default}
 use Rattle.tables.specs.Stands.{StandsFor}
 use Rattle.tables.proofs.Stands.{stands_for, deref_within, deref_by_kind, variable_by_kind, kind_at_most}
-use Rattle.tables.specs.Refusals.{Fault, refuse_if, malformed, first_fault, term_name_fault, term_fault}
+use Rattle.tables.specs.Refusals.{refuse_if, malformed, term_name_fault, term_fault}
 use Rattle.tables.specs.RefusalLaws.{or_else_none, refuse_if_none, malformed_none}
-use Rattle.tables.specs.TermTable.{term_fault_at, terms_fault, terms_from, AcceptedTerms}
+use Rattle.tables.specs.TermTable.{terms_from, AcceptedTerms}
 
 pub default_some : {A : Type 0} (d : A) (o : Option A) (x a : A) → o ≡ some a → x ≡ or_default d o → o ≡ some x
 default_some d none x a e f = cc

@@ -1,16 +1,13 @@
 -- The lent memory of a call: the refusals with it, and every cell afterwards.
-use Rattle.std.specs.Prelude.{ℕ, ◌≤◌, ◌≡◌, Bool, ◌||◌, List, ltb, ℤ, length}
-use Rattle.std.proofs.Math.Option.{Option, none}
-use Rattle.std.proofs.Common.{ltb-false, le-ltb}
-use Rattle.lists.specs.Booleans.{or_false, both_false}
+use Rattle.std.specs.Prelude.{ℕ, ◌≤◌, Bool, ◌||◌, List, ltb, ℤ, length}
+use Rattle.std.proofs.Math.Option.{Option}
 use Rattle.lists.specs.Overwrite.{overwrite, Keeps}
 use Rattle.types.specs.declared.Refusal.TheVariants.{TooShort}
 use Rattle.outcome.specs.PairBits.{pair_bytes}
 use Rattle.outcome.specs.Outcome.{Outcome}
 use Rattle.tables.specs.Limits.{most}
 use Rattle.tables.specs.Refusals.{Fault, or_else, fault_if}
-use Rattle.tables.specs.RefusalLaws.{or_else_none, fault_if_none, both_none, not_faulty}
-use Rattle.tables.specs.TableFaults.{Tables, sizes_fault, records_fault, tables_fault, Sized, Accepted}
+use Rattle.tables.specs.TableFaults.{Tables, sizes_fault, records_fault}
 
 pub record Memory : Type 0 where
   pub representatives : List ℕ

@@ -1,16 +1,11 @@
 -- A well-formed record and the term or proposition that it stands for have the same kind and fields.
-use Rattle.std.specs.Prelude.{ℕ, ◌<◌, ◌≤◌, ◌≡◌, refl, ◌≢◌, Bool, true, false, ◌&&◌, eqb, ltb, ℤ, pos, negsuc}
-use Rattle.std.proofs.Common.{arith, SFits, eqb-true, ltb-true}
-use Rattle.std.proofs.Math.Option.{some}
+use Rattle.std.specs.Prelude.{ℕ, ◌<◌, ◌≡◌, ◌≢◌, ℤ, pos}
+use Rattle.std.proofs.Common.{SFits}
 use Rattle.std.specs.Int.{w32}
-use Rattle.offsets.specs.Fits.{fits_within}
-use Rattle.integers.specs.Compare.{eq_ℤ, eq_ℤ_true}
-use Rattle.lists.specs.Search.{choose}
 use Rattle.rules.specs.Terms.{Term, variable, auxiliary, deref, Proposition, equality, disequality, block_disequality}
 use Rattle.integers.specs.Within.{Within}
-use Rattle.lists.specs.Booleans.{and_true}
 use Rattle.tables.specs.Limits.{atom_limit, offset_limit}
-use Rattle.tables.specs.Records.{TermRecord, PropositionRecord, variable_kind, auxiliary_kind, deref_kind, equality_kind, disequality_kind, block_disequality_kind, when, atom_record, offset_in_range, term_of, proposition_of}
+use Rattle.tables.specs.Records.{TermRecord, PropositionRecord, variable_kind, auxiliary_kind, deref_kind, equality_kind, disequality_kind, block_disequality_kind}
 
 abbrev pub kind_of : Term → ℕ
 kind_of (variable x) = variable_kind
