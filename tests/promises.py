@@ -25,8 +25,8 @@ LONGEST = 280
 KIT = {"os", "rattle_errno", "rattle_arg", "rattle_arg_count", "rattle_set_errno", "__xpg_strerror_r"}
 # Forms that the scope paper names and that no other crate has a use for (docs/DECISIONS.md, 47).
 FORMS = {"offsets": ["negated", "subtracted"]}
-# The pages that tell of paths and commands; CHANGELOG.md tells of older ones too.
-PAGES = [Path("README.md"), *sorted(Path("docs").glob("*.md")), Path("examples/texts/README.md")]
+# The pages that tell of paths and commands; CHANGELOG.md and the pages on the port tell of older ones too.
+PAGES = [Path("README.md"), *(page for page in sorted(Path("docs").glob("*.md")) if not page.stem.startswith("PORT")), Path("examples/texts/README.md")]
 NAMED_PATH = re.compile(r"(?<![\w/.$])(?:\.ci|crates|docs|examples|include|target|tests|tools)/[\w./*-]*\w")
 MADE = {
     "crates/bucketmonk/out/bucketmonk",
