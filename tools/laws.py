@@ -126,11 +126,6 @@ def write(items, head):
     return "\n".join(out).strip("\n") + "\n"
 
 
-def same(modules):
-    """One object for each header, so that declarations of one module are found to be together."""
-    return modules
-
-
 def split(crate, name):
     path = f"crates/{crate}/specs/{name}.antt"
     items = parse(open(path, encoding="utf-8").read())
