@@ -3,8 +3,8 @@
 
 usage: python3 tools/laws.py     (from the repository's root, once)
 
-A file of WHOLE moves; of a file of LAWS the theorems move, and the definitions stay. An error in specs/ says of an edit that it cannot be
-read, one in proofs/ that it is refused.
+A file of WHOLE moves; of a file of LAWS the theorems move, and the definitions stay. Where theorems of specs/ depend on one that an edit makes
+false, they are not checked, and the edit counts as one that cannot be read; in proofs/ it counts as refused.
 """
 import glob
 import os
