@@ -1,4 +1,5 @@
 -- `expansion::row_word` meets its contract.
+-- The answer for a whole word stands in its place and the test goes unnamed, since the names hold the bound.
 use Prim.Native.Nat.{◌*◌, ◌%◌, ◌^◌, ◌-◌}
 use mathlib.Core.Path.{◌≡◌, ◌∙◌}
 use native.Mathlib.Nat.{one-mul}
@@ -28,18 +29,14 @@ mul_left c = search rules
 sub-left : tie.Need-overflow_sub-left
 sub-left c = search rules
 
-returns : tie.Need-returns-then-left-ge64
-returns c = let a = c.args in whole_word a.n a.h.0 a.w c.word_at-word.ensures c.if-left-ge64.true
-
 shl-result : tie.Need-overflow_shl-result
 shl-result c = search rules
 
 sub-result : tie.Need-overflow_sub-result
-sub-result c = let a = c.args in let h = c.if-left-ge64.false in omega (arith, shl_exact {a = 1} 1 (a.n - 64 * a.w) 64 (omega arith) (omega arith), pow_pos (a.n - 64 * a.w))
+sub-result c = let a = c.args in omega (arith, shl_exact {a = 1} 1 (a.n - 64 * a.w) 64 (omega arith) (omega arith), pow_pos (a.n - 64 * a.w))
 
 returns-2 : tie.Need-returns
 returns-2 c = let a = c.args in
-    let h = c.if-left-ge64.false in
     let k = a.n - 64 * a.w in
     let s : 1 * 2 ^ k % 2 ^ 64 ≡ 2 ^ k = shl_exact {a = 1} 1 k 64 (omega arith) (omega arith) ∙ one-mul (2 ^ k) in
     rw s (last_word a.n a.h.0 a.w c.word_at-word.ensures (omega arith))
@@ -54,7 +51,7 @@ row_word_spec =
     word-at-requires
     mul_left
     sub-left
-    returns
+    (λ c. let a = c.args in whole_word a.n a.h.0 a.w c.word_at-word.ensures (omega arith))
     shl-result
     sub-result
     returns-2)

@@ -1,4 +1,5 @@
 -- `hexadecimal::offset` meets its contract: from 2 ^ 31 on, 2 ^ 32 less is what the bits spell in two's complement.
+-- The answers stand in their order, since the names of the returns hold the bound.
 use Prim.Native.Nat.{suc, ◌-◌, ◌^◌}
 use native.Mathlib.Omega.{arith}
 use borrow.Author.Tests.{lt-ltb}
@@ -10,17 +11,15 @@ use borrow.Author.Rules.{rules}
 use Rattle.hexadecimal.proofs.offset.Statement.{statement}
 use Rattle.hexadecimal.proofs.offset.Tie as tie
 
-sub-result : tie.Need-overflow_sub-result
-sub-result c = let n = c.args.bits in rw (less_whole n (omega arith)) (record { sfits = omega arith })
-
-returns : tie.Need-returns-then-bits-lt2147483648
-returns c = let n = c.args.bits in rw (signed_low n (omega arith), lt-ltb n (2 ^ 63) (omega arith))
-
-returns-2 : tie.Need-returns-else-bits-lt2147483648
-returns-2 c =
+pub offset_spec : {M : Type 1} → statement M
+offset_spec =
+    tie.close
+    (tie.spec
+    (λ c. search rules)
+    (λ c. search rules)
+    (λ c. let n = c.args.bits in rw (less_whole n (omega arith)) (record { sfits = omega arith }))
+    (λ c. let n = c.args.bits in rw (signed_low n (omega arith), lt-ltb n (2 ^ 63) (omega arith)))
+    (λ c.
     let n = c.args.bits in
     let e = less_whole n (omega arith) in
-    rw (e, to_z-of_z w64 (negsuc (2 ^ 32 - suc n)) (record { sfits = omega arith }), signed_high n (omega arith))
-
-pub offset_spec : {M : Type 1} → statement M
-offset_spec = tie.close (tie.spec (λ c. search rules) (λ c. search rules) sub-result returns returns-2)
+    rw (e, to_z-of_z w64 (negsuc (2 ^ 32 - suc n)) (record { sfits = omega arith }), signed_high n (omega arith))))

@@ -1,4 +1,4 @@
--- `lastlook::all_stand` meets its contract.
+-- `lastlook::all_stand` meets its contract. The test of the index goes unnamed, since its name holds the bound.
 use native.Mathlib.Omega.{arith}
 use Prim.Native.Nat.{ℕ, ◌≤◌, ◌<◌, ◌-◌}
 use mathlib.Core.Path.{◌≡◌, sym, ◌∙◌}
@@ -48,7 +48,7 @@ loop-again-3 c =
     let l = c in
     let i = get_or l.args.places.now l.loop-x.x 0 in
     let r = sym c.reader_of-reader.ensures ∙ c.if-reader-ne-MANY.false in
-    (omega (arith, c.loop-x-test.true), below_more _ l.loop-x.x l.loop-x.invariant.1 (λ d. listed r (record { place = i; below = omega (arith, c.if-count-i.false); is = c.if-words-i.false ∙ c.word.ensures })))
+    (omega (arith, c.loop-x-test.true), below_more _ l.loop-x.x l.loop-x.invariant.1 (λ d. listed r (record { place = i; below = omega arith; is = c.if-words-i.false ∙ c.word.ensures })))
 
 returns-4 : tie.Need-returns invariant-loop decreases-loop
 returns-4 c = all_stand (λ k h. c.loop-x.invariant.1 k (omega (arith, c.loop-x-test.false)))

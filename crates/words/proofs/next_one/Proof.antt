@@ -1,4 +1,5 @@
--- `words::next_one` meets its contract.
+-- `words::next_one` meets its contract. The test of `from` goes unnamed, since its name holds the bound.
+use native.Mathlib.Omega.{arith}
 use borrow.Author.Rules.{rules}
 use Rattle.words.specs.Words.{next_lowest, next_none}
 use Rattle.words.proofs.next_one.Statement.{statement}
@@ -8,7 +9,7 @@ pub next_one_spec : {M : Type 1} → statement M
 next_one_spec =
     tie.close
     (tie.spec
-    (λ c. next_none c.before.args.word c.if-from-eq64.true)
+    (λ c. next_none c.args.word (omega arith))
     (λ c. search rules)
     (λ c κs. search rules)
     (λ c. search rules)

@@ -1,4 +1,5 @@
 -- The classes of the variables before t are seen, and no two are one.
+-- The answer where a class was seen stands in its place and the test goes unnamed, since the names hold what is compared.
 use Prim.Native.Nat.{◌-◌, ◌<◌}
 use native.Mathlib.Omega.{arith}
 use lib.ListN.{length}
@@ -27,19 +28,12 @@ few c =
     let s = l in
     omega (arith, c.wide-class.ensures, s.requires.1 l.loop-t.t (omega arith), s.requires.0.1, s.requires.0.0)
 
-returns : tie.Need-returns-then-seen-class-ne0 invariant-loop decreases-loop
-returns c =
-    let w = c in
-    let r = w in
-    let l = r in
-    seen_meets _ _ _ r.loop-t-test.true (rw r.term_at-r.ensures at w.if-r-ne-VARIABLE.false) w.wide-class.ensures c.if-seen-class-ne0.true l.loop-t.invariant
-
 loop-again-2 : tie.Need-loop-t-preserved invariant-loop decreases-loop
 loop-again-2 c =
     let w = c in
     let r = w in
     let l = r in
-    seen_variable _ _ _ r.loop-t-test.true (rw r.term_at-r.ensures at w.if-r-ne-VARIABLE.false) w.wide-class.ensures (few w.before) c.if-seen-class-ne0.false l.loop-t.invariant
+    seen_variable _ _ _ r.loop-t-test.true (rw r.term_at-r.ensures at w.if-r-ne-VARIABLE.false) w.wide-class.ensures (few w.before) (omega arith) l.loop-t.invariant
 
 returns-2 : tie.Need-returns invariant-loop decreases-loop
 returns-2 c = seen_all _ _ _ (omega (arith, c.loop-t-test.false)) c.loop-t.invariant
@@ -60,7 +54,7 @@ variables_meet_spec =
     (λ c κs. search rules)
     (λ c. omega (arith, few c))
     few
-    returns
+    (λ c. seen_meets _ _ _ c.loop-t-test.true (rw c.term_at-r.ensures at c.if-r-ne-VARIABLE.false) c.wide-class.ensures (λ e. omega arith) c.loop-t.invariant)
     (λ c. omega (arith, few c.before))
     (λ c. few c.before)
     (λ c. omega arith)

@@ -1,4 +1,5 @@
 -- `marking::base::none_apart` meets its contract. The invariant: the words before w are 0.
+-- The answer where a word is not 0 stands in its place and the test goes unnamed, since the names hold what is compared.
 use Rattle.std.proofs.Common.{◌+◌, ◌-◌, ◌/◌, ◌≤◌, refl, arith}
 use Rattle.lists.specs.Booleans.{false_true}
 use Rattle.marking.specs.Classes.{zero_more, zero_none, zero_start, ZeroWords}
@@ -30,9 +31,6 @@ add-word-at c = omega (arith, c.loop-w-test.true, c.requires.0, c.pair_number-st
 word-at-requires : tie.Need-word_at-requires invariant-loop decreases-loop
 word-at-requires c κs = omega (arith, c.loop-w-test.true, c.requires.0, c.pair_number-start.ensures, product_small c.args.n c.args.a c.requires.0 c.requires.1)
 
-returns : tie.Need-returns-then-word_at-ne0 invariant-loop decreases-loop
-returns c = λ e. false_true refl e
-
 add-w : tie.Need-overflow_step-w invariant-loop decreases-loop
 add-w c = omega (arith, c.loop-w-test.true, c.requires.0)
 
@@ -40,7 +38,7 @@ loop-less : tie.Need-loop-w-smaller invariant-loop decreases-loop
 loop-less c = omega (arith, c.loop-w-test.true)
 
 loop-again : tie.Need-loop-w-preserved invariant-loop decreases-loop
-loop-again c = (omega (arith, c.loop-w-test.true), zero_more c.word_at.ensures c.if-word_at-ne0.false c.loop-w.invariant.1)
+loop-again c = (omega (arith, c.loop-w-test.true), zero_more c.word_at.ensures (omega arith) c.loop-w.invariant.1)
 
 returns-2 : tie.Need-returns invariant-loop decreases-loop
 returns-2 c = λ e. zero_none c.args.n c.args.a (omega (arith, c.loop-w-test.false)) (rw c.pair_number-start.ensures at c.loop-w.invariant.1)
@@ -57,7 +55,7 @@ none_apart_spec =
     mul-word-at
     add-word-at
     word-at-requires
-    returns
+    (λ c e. false_true refl e)
     add-w
     loop-less
     loop-again

@@ -1,21 +1,16 @@
 -- `placing::apart::mark_block` meets its contract.
-use mathlib.Core.Path.{sym, ◌∙◌, ap}
+-- The first answer stands in its place and the test goes unnamed, since the names hold what is compared.
+use mathlib.Core.Path.{◌≡◌, sym, ◌∙◌, ap}
 use native.Mathlib.Omega.{arith}
 use lib.ListN.{length}
 use borrow.Author.Rules.{rules}
-use Rattle.tables.specs.Records.{PropositionRecord}
+use Rattle.tables.specs.Records.{PropositionRecord, block_disequality_kind}
 use Rattle.tables.specs.Rows.{proposition_in}
 use Rattle.tables.proofs.PropositionTable.{sides_below}
 use Rattle.marking.specs.Marks.{adds_none, adds_as}
 use Rattle.placing.specs.Apart.{BlockPair}
 use Rattle.placing.proofs.apart.mark_block.Statement.{statement}
 use Rattle.placing.proofs.apart.mark_block.Tie as tie
-
-returns : tie.Need-returns-then-r-ne-BLOCK_DISEQUALITY
-returns c =
-    let s = c in
-    adds_none (length s.args.terms.now) (BlockPair (proposition_in s.args.propositions.now) s.args.reps.now s.args.k.0) _
-    (λ x y d. c.if-r-ne-BLOCK_DISEQUALITY.true (ap (λ (r : PropositionRecord). r.kind) c.proposition_at-r.ensures ∙ d.0))
 
 class-of-requires : tie.Need-class_of-a-requires
 class-of-requires c κs =
@@ -47,7 +42,8 @@ set-both-requires c κs =
 returns-2 : tie.Need-returns
 returns-2 c =
     let s = c in
-    let kind = sym (ap (λ (r : PropositionRecord). r.kind) c.proposition_at-r.ensures) ∙ c.if-r-ne-BLOCK_DISEQUALITY.false in
+    let block : c.proposition_at-r.result.kind ≡ block_disequality_kind = omega arith in
+    let kind = sym (ap (λ (r : PropositionRecord). r.kind) c.proposition_at-r.ensures) ∙ block in
     adds_as (length s.args.terms.now) _ (BlockPair (proposition_in s.args.propositions.now) s.args.reps.now s.args.k.0)
     (rw (c.class_of-a.ensures, c.class_of-b.ensures, c.index.ensures ∙ ap (λ (r : PropositionRecord). r.left) c.proposition_at-r.ensures, c.index-2.ensures ∙ ap (λ (r : PropositionRecord). r.right) c.proposition_at-r.ensures) at c.set_both.ensures)
     (λ x y hx hy d. (kind, d))
@@ -58,7 +54,11 @@ mark_block_spec =
     tie.close
     (tie.spec
     (λ c κs. search rules)
-    returns
+    (λ c.
+    let s = c in
+    let other : c.proposition_at-r.result.kind ≡ block_disequality_kind → ⊥ = (λ e. omega arith) in
+    adds_none (length s.args.terms.now) (BlockPair (proposition_in s.args.propositions.now) s.args.reps.now s.args.k.0) _
+    (λ x y d. other (ap (λ (r : PropositionRecord). r.kind) c.proposition_at-r.ensures ∙ d.0)))
     (λ c κs. search rules)
     class-of-requires
     (λ c κs. search rules)
