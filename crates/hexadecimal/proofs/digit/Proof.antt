@@ -1,20 +1,39 @@
 -- `hexadecimal::digit` meets its contract: the tests that led to a return say whether the character is in a range.
--- The answers stand in their order, since the names of the returns hold the bounds of the ranges.
+-- Each answer may be any of the ways, since the names of the returns and their order change with the ranges that are tested.
 use borrow.Author.Rules.{rules}
-use mathlib.Core.Path.{sym, ap}
+use Prim.Native.Nat.{ℕ, ◌+◌, ◌-◌, ◌≤◌, ◌<◌}
+use mathlib.Core.Path.{◌≡◌, sym, ap}
 use native.Mathlib.Omega.{arith}
+use Rattle.text.specs.Lines.{digit}
 use Rattle.text.proofs.Digits.{decimal_value, letter_value, no_value}
+use Rattle.hexadecimal.specs.declared.Spelled.{Spelled}
 use Rattle.hexadecimal.specs.Spelling.{spelled}
 use Rattle.hexadecimal.proofs.digit.Statement.{statement}
 use Rattle.hexadecimal.proofs.digit.Tie as tie
+
+module _ (c : ℕ) where
+  decimal : 48 ≤ c → c ≤ 57 → Spelled.Value (c - 48) ≡ spelled (digit c)
+  decimal l h = sym (ap spelled (decimal_value c l h))
+
+  letter : 65 ≤ c → c ≤ 70 → Spelled.Value (c - 65 + 10) ≡ spelled (digit c)
+  letter l h = sym (ap spelled (letter_value c l h))
+
+  below : c < 48 → Spelled.Bad ≡ spelled (digit c)
+  below h = sym (ap spelled (no_value c (λ l. omega arith) (λ l. omega arith)))
+
+  between : 57 < c → c < 65 → Spelled.Bad ≡ spelled (digit c)
+  between l h = sym (ap spelled (no_value c (λ k. omega arith) (λ k. omega arith)))
+
+  above : 70 < c → Spelled.Bad ≡ spelled (digit c)
+  above l = sym (ap spelled (no_value c (λ k. omega arith) (λ k. omega arith)))
 
 pub digit_spec : {M : Type 1} → statement M
 digit_spec =
     tie.close
     (tie.spec
-    (λ c. search rules)
-    (λ c. sym (ap spelled (decimal_value c.args.c (omega arith) (omega arith))))
-    (λ c. sym (ap spelled (letter_value c.args.c (omega arith) (omega arith))))
-    (λ c. sym (ap spelled (no_value c.args.c (λ h. omega arith) (λ h. omega arith))))
-    (λ c. sym (ap spelled (no_value c.args.c (λ h. omega arith) (λ h. omega arith))))
-    (λ c. sym (ap spelled (no_value c.args.c (λ h. omega arith) (λ h. omega arith)))))
+    (λ c. search (decimal, letter, below, between, above, rules))
+    (λ c. search (decimal, letter, below, between, above, rules))
+    (λ c. search (decimal, letter, below, between, above, rules))
+    (λ c. search (decimal, letter, below, between, above, rules))
+    (λ c. search (decimal, letter, below, between, above, rules))
+    (λ c. search (decimal, letter, below, between, above, rules)))

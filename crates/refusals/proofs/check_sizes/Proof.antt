@@ -1,39 +1,57 @@
--- Each way gives the tests up to the one that decides. They and the answers go unnamed, since their names hold what is tested.
-use mathlib.Core.Path.{◌≡◌}
-use native.Mathlib.Omega.{arith}
+-- `refusals::check_sizes` meets its contract: a fault that the tests find is the definition's where those before it are none.
+-- The answers name neither tests nor returns, since those names hold what is tested.
+use mathlib.Core.Path.{◌≡◌, ◌∙◌}
 use borrow.Author.Rules.{rules}
 use Rattle.std.proofs.lemmas.Bool.{lt-ltb, le-ltb}
-use Rattle.std.specs.Prelude.{◌<◌, ◌≤◌, ◌||◌, ltb, true, false}
+use Rattle.std.specs.Prelude.{ℕ, ◌<◌, ◌≤◌, ◌||◌, Bool, ltb, true, false}
+use Rattle.types.specs.declared.Acceptance.{Acceptance}
+use Rattle.types.specs.declared.Refusal.{Refusal}
+use Rattle.types.specs.declared.Refusal.TheVariants.{TooManyTerms, TooManyPropositions, TooManyQuestions, TooShort}
 use Rattle.tables.specs.Limits.{most}
-use Rattle.tables.specs.TableFaults.{lengths_fault}
+use Rattle.tables.specs.TableFaults.{acceptance, lengths_fault}
 use Rattle.refusals.proofs.check_sizes.Statement.{statement}
 use Rattle.refusals.proofs.check_sizes.Tie as tie
 
+abbrev refused : Refusal → ℕ → Acceptance
+refused r k = Acceptance.Refused (record { refusal = r; place = k })
+
+module _ (n terms m propositions q questions : ℕ) where
+  abbrev right : Acceptance → Type 0
+  right told = told ≡ acceptance (lengths_fault most n terms m propositions q questions)
+
+  abbrev too-short : Bool
+  too-short = ltb terms n || (ltb propositions m || ltb questions q)
+
+  many-terms : {told : Acceptance} → told ≡ refused TooManyTerms most → most < n → right told
+  unfolding lengths_fault
+  many-terms e h = e ∙ rw (lt-ltb _ _ h)
+
+  many-propositions : {told : Acceptance} → told ≡ refused TooManyPropositions most → n ≤ most → most < m → right told
+  unfolding lengths_fault
+  many-propositions e a h = e ∙ rw (le-ltb _ _ a, lt-ltb _ _ h)
+
+  many-questions : {told : Acceptance} → told ≡ refused TooManyQuestions most → n ≤ most → m ≤ most → most < q → right told
+  unfolding lengths_fault
+  many-questions e a b h = e ∙ rw (le-ltb _ _ a, le-ltb _ _ b, lt-ltb _ _ h)
+
+  short : {told : Acceptance} → told ≡ refused TooShort 0 → n ≤ most → m ≤ most → q ≤ most → too-short ≡ true → right told
+  unfolding lengths_fault
+  short e a b c h = e ∙ rw (le-ltb _ _ a, le-ltb _ _ b, le-ltb _ _ c, h)
+
+  accepted : {told : Acceptance} → told ≡ Acceptance.Accepted → n ≤ most → m ≤ most → q ≤ most → too-short ≡ false → right told
+  unfolding lengths_fault
+  accepted e a b c h = e ∙ rw (le-ltb _ _ a, le-ltb _ _ b, le-ltb _ _ c, h)
+
 pub check_sizes_spec : {M : Type 1} → statement M
-unfolding lengths_fault
 check_sizes_spec =
     tie.close
     (tie.spec
     (λ c κs. search rules)
-    (λ c. let many : most < c.args.n = omega arith in rw (lt-ltb _ _ many) assumption)
+    (λ c. search (many-terms, many-propositions, many-questions, short, accepted))
     (λ c κs. search rules)
-    (λ c. let few : c.args.n ≤ most = omega arith in let many : most < c.args.m = omega arith in rw (le-ltb _ _ few, lt-ltb _ _ many) assumption)
+    (λ c. search (many-terms, many-propositions, many-questions, short, accepted))
     (λ c κs. search rules)
-    (λ c.
-    let few : c.args.n ≤ most = omega arith in
-    let few-2 : c.args.m ≤ most = omega arith in
-    let many : most < c.args.q = omega arith in
-    rw (le-ltb _ _ few, le-ltb _ _ few-2, lt-ltb _ _ many) assumption)
+    (λ c. search (many-terms, many-propositions, many-questions, short, accepted))
     (λ c κs. search rules)
-    (λ c.
-    let few : c.args.n ≤ most = omega arith in
-    let few-2 : c.args.m ≤ most = omega arith in
-    let few-3 : c.args.q ≤ most = omega arith in
-    let short : (ltb c.args.terms c.args.n || (ltb c.args.propositions c.args.m || ltb c.args.questions c.args.q)) ≡ true = assumption in
-    rw (le-ltb _ _ few, le-ltb _ _ few-2, le-ltb _ _ few-3, short) assumption)
-    (λ c.
-    let few : c.args.n ≤ most = omega arith in
-    let few-2 : c.args.m ≤ most = omega arith in
-    let few-3 : c.args.q ≤ most = omega arith in
-    let long : (ltb c.args.terms c.args.n || (ltb c.args.propositions c.args.m || ltb c.args.questions c.args.q)) ≡ false = assumption in
-    rw (le-ltb _ _ few, le-ltb _ _ few-2, le-ltb _ _ few-3, long)))
+    (λ c. search (many-terms, many-propositions, many-questions, short, accepted))
+    (λ c. search (many-terms, many-propositions, many-questions, short, accepted)))
