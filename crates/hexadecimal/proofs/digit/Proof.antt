@@ -5,6 +5,7 @@ use Prim.Native.Nat.{ℕ, ◌+◌, ◌-◌, ◌≤◌, ◌<◌}
 use mathlib.Core.Path.{◌≡◌, sym, ap}
 use native.Mathlib.Omega.{arith}
 use Rattle.text.specs.Lines.{digit}
+use Prim.Native.Char.{code}
 use Rattle.text.proofs.Digits.{decimal_value, letter_value, no_value}
 use Rattle.hexadecimal.specs.declared.Spelled.{Spelled}
 use Rattle.hexadecimal.specs.Spelling.{spelled}
@@ -12,28 +13,23 @@ use Rattle.hexadecimal.proofs.digit.Statement.{statement}
 use Rattle.hexadecimal.proofs.digit.Tie as tie
 
 module _ (c : ℕ) where
-  decimal : 48 ≤ c → c ≤ 57 → Spelled.Value (c - 48) ≡ spelled (digit c)
+  decimal : code "0" ≤ c → c ≤ code "9" → Spelled.Value (c - code "0") ≡ spelled (digit c)
   decimal l h = sym (ap spelled (decimal_value c l h))
 
-  letter : 65 ≤ c → c ≤ 70 → Spelled.Value (c - 65 + 10) ≡ spelled (digit c)
+  letter : code "A" ≤ c → c ≤ code "F" → Spelled.Value (c - code "A" + 10) ≡ spelled (digit c)
   letter l h = sym (ap spelled (letter_value c l h))
 
-  below : c < 48 → Spelled.Bad ≡ spelled (digit c)
+  below : c < code "0" → Spelled.Bad ≡ spelled (digit c)
   below h = sym (ap spelled (no_value c (λ l. omega arith) (λ l. omega arith)))
 
-  between : 57 < c → c < 65 → Spelled.Bad ≡ spelled (digit c)
+  between : code "9" < c → c < code "A" → Spelled.Bad ≡ spelled (digit c)
   between l h = sym (ap spelled (no_value c (λ k. omega arith) (λ k. omega arith)))
 
-  above : 70 < c → Spelled.Bad ≡ spelled (digit c)
+  above : code "F" < c → Spelled.Bad ≡ spelled (digit c)
   above l = sym (ap spelled (no_value c (λ k. omega arith) (λ k. omega arith)))
+
+ruleset ways = (decimal, letter, below, between, above, rules)
 
 pub digit_spec : {M : Type 1} → statement M
 digit_spec =
-    tie.close
-    (tie.spec
-    (λ c. search (decimal, letter, below, between, above, rules))
-    (λ c. search (decimal, letter, below, between, above, rules))
-    (λ c. search (decimal, letter, below, between, above, rules))
-    (λ c. search (decimal, letter, below, between, above, rules))
-    (λ c. search (decimal, letter, below, between, above, rules))
-    (λ c. search (decimal, letter, below, between, above, rules)))
+    tie.close (tie.spec (λ c. search ways) (λ c. search ways) (λ c. search ways) (λ c. search ways) (λ c. search ways) (λ c. search ways))

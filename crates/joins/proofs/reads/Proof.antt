@@ -1,7 +1,10 @@
+use mathlib.Core.Path.{ap, ◌∙◌}
+use Rattle.integers.specs.Compare.{eq_ℤ}
 use Rattle.tables.specs.Rows.{term_in}
 use mir.Syntax.{w64}
+use mir.Val.{to_z, of_z}
 use mir.ValLaws.{to_z-of_z}
-use borrow.Author.Rules.{rules, sfits_of}
+use borrow.Author.Rules.{rules}
 use Rattle.joins.specs.Labels.{unchanged_self}
 use Rattle.joins.specs.Meeting.{does_not, deref_record, reads_by}
 use Rattle.joins.proofs.reads.Statement.{statement}
@@ -17,7 +20,11 @@ returns-2 : tie.Need-returns-then-at-other
 returns-2 c = does_not c.address-other.ensures.unchanged
 
 returns-3 : tie.Need-returns
-returns-3 c = reads_by c.term_at-r.ensures c.if-r-ne-DEREF.false c.address-other.ensures c.if-at-other.false c.is_same.result (rw (to_z-of_z w64 c.args.at.offset (sfits_of c.struct_told-1.given.1.0.1), to_z-of_z w64 c.address-other.result.offset (sfits_of c.struct_told-2-1.given.1.0.1)) at c.is_same.ensures)
+returns-3 c =
+    let at = to_z-of_z w64 c.args.at.offset (search rules) in
+    let other = to_z-of_z w64 c.address-other.result.offset (search rules) in
+    reads_by c.term_at-r.ensures c.if-r-ne-DEREF.false c.address-other.ensures c.if-at-other.false c.is_same.result
+    (c.is_same.ensures ∙ (ap (λ x. eq_ℤ x (to_z w64 (of_z w64 c.address-other.result.offset))) at ∙ ap (eq_ℤ c.args.at.offset) other))
 
 pub reads_spec : {M : Type 1} → statement M
 reads_spec =

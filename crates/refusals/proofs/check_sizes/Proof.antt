@@ -42,16 +42,18 @@ module _ (n terms m propositions q questions : ℕ) where
   unfolding lengths_fault
   accepted e a b c h = e ∙ rw (le-ltb _ _ a, le-ltb _ _ b, le-ltb _ _ c, h)
 
+ruleset ways = (many-terms, many-propositions, many-questions, short, accepted)
+
 pub check_sizes_spec : {M : Type 1} → statement M
 check_sizes_spec =
     tie.close
     (tie.spec
     (λ c κs. search rules)
-    (λ c. search (many-terms, many-propositions, many-questions, short, accepted))
+    (λ c. search ways)
     (λ c κs. search rules)
-    (λ c. search (many-terms, many-propositions, many-questions, short, accepted))
+    (λ c. search ways)
     (λ c κs. search rules)
-    (λ c. search (many-terms, many-propositions, many-questions, short, accepted))
+    (λ c. search ways)
     (λ c κs. search rules)
-    (λ c. search (many-terms, many-propositions, many-questions, short, accepted))
-    (λ c. search (many-terms, many-propositions, many-questions, short, accepted)))
+    (λ c. search ways)
+    (λ c. search ways))

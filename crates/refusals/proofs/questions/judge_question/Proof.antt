@@ -3,6 +3,7 @@ use mathlib.Core.Path.{◌≡◌, sym, ◌∙◌}
 use mir.Syntax.{w64}
 use mir.ValLaws.{to_z-of_z}
 use borrow.Author.Rules.{rules, sfits_of}
+use Rattle.std.specs.Prelude.{◌||◌, leb, true, false}
 use Rattle.lists.specs.Search.{is_some}
 use Rattle.tables.specs.Records.{question_of}
 use Rattle.tables.specs.Refusals.{question_fault, question_name_fault}
@@ -26,13 +27,15 @@ unfolding question_fault question_name_fault
 returns-2 c =
     let u = c in
     let j = u in
-    c.refuse-then-unlisted.ensures ∙ rw (formed _ _ (found j.before.before.before.before ∙ j.if-not-in_range.false), ← u.unlisted.ensures, c.if-unlisted.true)
+    let named : (leb c.args.n c.args.r.left || leb c.args.n c.args.r.right) ≡ true = sym c.unlisted.ensures ∙ c.if-unlisted.true in
+    c.refuse-then-unlisted.ensures ∙ rw (formed _ _ (found j.before.before.before.before ∙ j.if-not-in_range.false), named)
 
 returns-3 : tie.Need-returns
 unfolding question_fault question_name_fault
 returns-3 c =
     let j = c in
-    rw (formed _ _ (found j.before.before.before ∙ j.if-not-in_range.false), ← c.unlisted.ensures, c.if-unlisted.false)
+    let named : (leb c.args.n c.args.r.left || leb c.args.n c.args.r.right) ≡ false = sym c.unlisted.ensures ∙ c.if-unlisted.false in
+    rw (formed _ _ (found j.before.before.before ∙ j.if-not-in_range.false), named)
 
 pub judge_question_spec : {M : Type 1} → statement M
 judge_question_spec = tie.close (tie.spec (λ c κs. search rules) (λ c κs. search rules) returns (λ c κs. search rules) (λ c κs. search rules) returns-2 returns-3)
