@@ -7,7 +7,7 @@ Run from the repository's root: python3 tests/promises.py. Last line: "N passed,
   Where a file stands with it, as in `name` (crate/File) or crate/File `name`, it is declared there.
 - Every file and every must-fail edit that is named exists. Every statement of the page of statements is named.
 - The last table names each edit once. No row of a table is longer than two lines of 140 characters.
-- The numbers of functions are those that the crates have.
+- The numbers of functions are those that the crates have, methods too.
 - Each public function that is not called from outside the repository names the crates that use it, after "Public for".
 - Every path of the repository that a page names is there, or a command makes it, and `rt` is called by commands that it has.
 """
@@ -42,6 +42,10 @@ COMMANDS = {"all check", "ci", "lib", "run", "version"}
 PLACE = re.compile(r"\b([a-z_]+)/(src/\w+\.rt|[A-Z]\w+)\b")
 EDIT = re.compile(r"\b([a-z_]+)/([a-z0-9_]+)\b(?![./])")
 DECLARED = re.compile(r"\b(?:fn|struct|enum|const|type)\s+(\w+)")
+# Functions and methods, and those that derives write, as the check's last line counts them.
+FUNCTION = re.compile(r'^ *(?:pub(?:\(crate\))? )?(?:extern "C" )?fn ', re.MULTILINE)
+DERIVE = re.compile(r"#\[derive\(([^)]*)\)\]")
+DERIVED = re.compile(r"\b(?:Debug|PartialEq)\b")
 PUBLIC = re.compile(r'^pub fn (\w+)', re.MULTILINE)
 USED = re.compile(r"\b([a-z_]+(?:::[a-z_]+)*)::(?:(\w+)\b(?!::)|\{([^}]*)\})")
 
@@ -146,12 +150,12 @@ class Check:
         self.functions(body)
 
     def functions(self, body):
-        """The numbers of functions, by crate."""
+        """The numbers of functions and methods, by crate."""
         rows = dict(re.findall(r"^\| (\d+) \| ([a-z_, ()`=0-9]+) \|$", body, re.MULTILINE))
         told = {name: int(n) for n, names in rows.items() for name in re.findall(r"\b[a-z_]+\b", re.sub(r"\(.*?\)", "", names))}
         for crate in self.crates:
             texts = [text for path, text in self.sources.items() if path.parts[1] == crate]
-            count = sum(len(re.findall(r'^(?:pub(?:\(crate\))? )?(?:extern "C" )?fn ', text, re.MULTILINE)) for text in texts)
+            count = sum(len(FUNCTION.findall(text)) + sum(len(DERIVED.findall(names)) for names in DERIVE.findall(text)) for text in texts)
             self.say(told.get(crate) == count, f"{crate} has {count} functions, the page says {told.get(crate)}")
 
     @staticmethod

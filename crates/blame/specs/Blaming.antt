@@ -1,6 +1,5 @@
 -- The marks while propositions are tried, a run at a time, from the highest number down.
-use Rattle.std.specs.Prelude.{ℕ, ◌+◌, ◌-◌, ◌<◌, ◌≤◌, ◌≡◌, Bool, true, ℤ, set}
-use Rattle.std.proofs.Common.{◌∙◌}
+use Rattle.std.specs.Prelude.{ℕ, ◌+◌, ◌<◌, ◌≤◌, ◌≡◌, Bool, true, ℤ}
 use Rattle.std.proofs.Math.Bool.{false}
 use mathlib.Core.List.{List, map}
 use Rattle.std.proofs.Math.ListN.{length, get_or}

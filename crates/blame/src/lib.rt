@@ -1,4 +1,5 @@
-// The blame for a contradiction. Public for the crate `solver`.
+// The blame for a contradiction. Public for the crate `solver`. The set, the marks and the labels are parameters of their own, since
+// `is_consistent` takes them so: a struct would be taken apart at each call.
 
 #![tactic(auto)]
 
@@ -76,18 +77,11 @@ fn find_blamed(
             high,
         ) {
             high = mid;
-            continue;
+        } else {
+            low = mid;
         }
-        low = mid;
     }
     PropositionNumber(low)
-}
-
-// Where a run of so many propositions that ends at k starts; 0 where there are fewer.
-fn run_start(k: usize, run: usize) -> usize
-    ensures { result ≡ k - run }
-{
-    if run < k { k - run } else { 0 }
 }
 
 // Marks the blamed propositions of a contradictory set: from the highest number down, each that can be dropped is. They are tried in
@@ -106,15 +100,14 @@ fn blame_marks(
     let mut k = propositions.len();
     let mut run = 1;
     while 0 < k {
-        let low = run_start(k, run);
+        let low = k.saturating_sub(run);
         if drop_run(terms, propositions, marks, representatives, offsets, low, k) {
             run = 2 * (k - low);
             k = low;
-            continue;
+        } else {
+            k = find_blamed(terms, propositions, marks, representatives, offsets, low, k).0;
+            run = 1;
         }
-        let blamed = find_blamed(terms, propositions, marks, representatives, offsets, low, k);
-        k = blamed.0;
-        run = 1;
     }
 }
 

@@ -21,13 +21,11 @@ pub(crate) enum Request {
 fn asked(argument: &[u8]) -> Request
     ensures { Asks result argument.now }
 {
-    if argument == b"--help".as_slice() {
-        return Request::Help;
+    match argument {
+        b"--help" => Request::Help,
+        b"--version" => Request::Version,
+        _ => Request::Unknown,
     }
-    if argument == b"--version".as_slice() {
-        return Request::Version;
-    }
-    Request::Unknown
 }
 
 // Whether the program was given an argument at this place; its own name is at place 0.

@@ -34,13 +34,8 @@ fn answer_input<R: Read, W: Write>(reader: &mut R, writer: &mut W) -> Result<(),
         × WritesAnswer result (W.contents writer.old) (W.contents writer.new) (output text) }
 {
     let mut text = [0u8; JUDGED];
-    match read_input(reader, &mut text) {
-        Ok(n) => match answer(writer, &text[..n]) {
-            Ok(()) => Ok(()),
-            Err(e) => Err(Failure::Output(e)),
-        },
-        Err(e) => Err(Failure::Input(e)),
-    }
+    let n = read_input(reader, &mut text).map_err(Failure::Input)?;
+    answer(writer, &text[..n]).map_err(Failure::Output)
 }
 
 fn main(rt: HostRuntime) {

@@ -44,6 +44,12 @@ pub record Chains (n size : ℕ) (keys first next : List ℕ) : Type 0 where
   pub links : Linked n 0 (key_of keys) next
   pub room : n ≤ length next
 
+-- the same by a key that no column holds
+pub record KeyChains (n size : ℕ) (key : ℕ → ℕ) (first next : List ℕ) : Type 0 where
+  pub starts : Chained n 0 size key first
+  pub links : Linked n 0 key next
+  pub room : n ≤ length next
+
 -- the number of buckets, said otherwise
 pub fillable : {n size other : ℕ} {keys next first : List ℕ} → other ≡ size → Chainable n size keys next → Filled (λ _. n) 0 size size first → Chainable n other keys next × Filled (λ _. n) 0 other other first
 fillable e C F = rw e (C, F)
@@ -121,3 +127,19 @@ chaining_more n b size long keys first next {v} low in_range_lem h e C =
       links = link_more n (b - 1) size keys first next (omega arith) k starts (omega (arith, C.room)) links;
       room = length-set next (b - 1) (get_or first (key_of keys (b - 1)) 0) ∙ C.room;
     })
+
+same_next : {n : ℕ} {key other : ℕ → ℕ} {k b f : ℕ} → ((t : ℕ) → t < n → key t ≡ other t) → NextOf n key k b f → NextOf n other k b f
+same_next {n} {key} {other} {k} {b} {f} same N = record {
+  after = N.after;
+  inside = N.inside;
+  hit = λ h. sym (same f h) ∙ N.hit h;
+  none = λ t l h e. N.none t l h (same t (omega (arith, N.inside)) ∙ e);
+}
+
+-- chains by a column are chains by what it holds
+pub key_chains : {n size : ℕ} {keys first next : List ℕ} {key : ℕ → ℕ} → ((t : ℕ) → t < n → key_of keys t ≡ key t) → Chains n size keys first next → KeyChains n size key first next
+key_chains same C = record {
+  starts = record { long = C.starts.long; from = λ k h. same_next same (C.starts.from k h) };
+  links = record { upto = C.links.upto; links = λ t b h. rw (← (same t h)) (same_next same (C.links.links t b h)) };
+  room = C.room;
+}

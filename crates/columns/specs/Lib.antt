@@ -4,3 +4,4 @@ pub mod Apartness
 pub mod Meaning
 pub mod Asked
 pub mod Answered
+pub mod Views

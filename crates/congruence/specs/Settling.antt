@@ -1,5 +1,5 @@
 -- The last looks: each finds that all dereferences of one address agree, or two that do not, which are joined.
-use Rattle.std.specs.Prelude.{ℕ, ◌<◌, ◌≡◌, true, false, List, ℤ, pos, length}
+use Rattle.std.specs.Prelude.{Some, None, ℕ, ◌<◌, ◌≡◌, true, false, List, ℤ, pos, length}
 use Rattle.std.proofs.Common.{sym, ◌∙◌, ap, arith}
 use Rattle.rules.specs.Assignments.{Placement, Holds}
 use Rattle.integers.specs.Within.{within_zero}
@@ -11,10 +11,9 @@ use Rattle.tables.specs.Rows.{Row, term_in}
 use Rattle.tables.specs.TermTable.{AcceptedTerms}
 use Rattle.unionfind.specs.declared.Joining.{Joining}
 use Rattle.unionfind.specs.Forest.{flat, Equated, Flattened}
-use Rattle.lastlook.specs.declared.Look.{Look}
 use Rattle.lastlook.specs.Addresses.{SameAddress, Labelled, Looked}
 use Rattle.joins.specs.Labels.{Labels, Unchanged, Columns, labels_rooted, labels_near, joined_labels}
-use Rattle.joins.specs.Meeting.{more, Chased, going, own_labels}
+use Rattle.joins.specs.Meeting.{more, Chased, going, own_labels, unchanged_chased, chased_labels, chased_chain, chased_long}
 use Rattle.congruence.specs.Closing.{Closing}
 
 pub flattened_unchanged : {p0 p : List ℕ} {o0 o : List ℤ} → Flattened p0 o0 p o → Unchanged p0 o0 p o
@@ -35,6 +34,14 @@ labelled terms {p} {o} A L v = record {
   near = λ t h. rw (ap (λ (P : Placement). P.position t) v) ((labels_near L).near (rw L.count h));
 }
 
+-- what was chased before the links were flattened was chased
+pub flattened_chased :
+    {n : ℕ} {rec : ℕ → TermRecord} {p0 p1 p2 : List ℕ} {o0 o1 o2 : List ℤ} →
+    Flattened p1 o1 p2 o2 →
+    Chased n rec p0 o0 p1 o1 true →
+    Chased n rec p0 o0 p2 o2 true
+flattened_chased F C = unchanged_chased _ _ (chased_labels _ _ C) (chased_chain _ _ C) (chased_long _ _ C) (flattened_unchanged F)
+
 module _ (n : ℕ) (rec : ℕ → TermRecord) where
   -- two dereferences of one address that do not agree
   pub record Apart (P : Placement) (x y : ℕ) : Type 0 where
@@ -43,12 +50,12 @@ module _ (n : ℕ) (rec : ℕ → TermRecord) where
     pub same : SameAddress rec P x y
     pub unequal : Holds P x (pos 0) y → ⊥
 
-  pub looked_pair : {P : Placement} {x y : TermNumber} → Looked n rec P (Look.Pair x y) → Apart P x.0 y.0
+  pub looked_pair : {P : Placement} {x y : TermNumber} → Looked n rec P (Some (x, y)) → Apart P x.0 y.0
   looked_pair (Looked.pair a b s m) = record { below_x = a; below_y = b; same = s; unequal = m }
 
   module _ {p0 p1 : List ℕ} {o0 o1 : List ℤ} where
     -- nothing is found
-    pub settled : Chased n rec p0 o0 p1 o1 true → view p1 o1 ≡ flat p1 o1 → Looked n rec (view p1 o1) Look.Closed → Closing n rec p0 o0 p1 o1 true
+    pub settled : Chased n rec p0 o0 p1 o1 true → view p1 o1 ≡ flat p1 o1 → Looked n rec (view p1 o1) None → Closing n rec p0 o0 p1 o1 true
     settled (going c L l) v (Looked.closed f) = Closing.closed c L l v (rw v at f)
 
     module _ {p2 : List ℕ} {o2 : List ℤ} {x y : ℕ} where

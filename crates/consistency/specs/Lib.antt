@@ -2,3 +2,4 @@
 pub mod Live
 pub mod Deciding
 pub mod Variables
+pub mod KeptSet

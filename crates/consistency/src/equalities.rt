@@ -1,68 +1,46 @@
-// The kept equalities, joined.
-ghost use Rattle.std.specs.Prelude.{◌≡◌, ◌≤◌, ◌<◌, length};
-ghost use Rattle.tables.specs.Sets.{set_of, AcceptedSet};
+// The kept equalities, joined. The loop goes over the numbers of rows, by which marks are read, too.
+ghost use Rattle.std.specs.Prelude.{◌<◌, length};
 ghost use Rattle.unionfind.specs.Forest.{flat};
+ghost use Rattle.unionfind.specs.Lent.{SameColumns};
+ghost use Rattle.consistency.specs.KeptSet.{set_in};
 ghost use Rattle.consistency.specs.Live.{Live, Advanced, Equalities};
 
-use tables::{PropositionRow, TermRow, proposition_at};
-use types::{EQUALITY, PropositionNumber, TermNumber, index};
-use unionfind::{Joining, join};
+use crate::Kept;
+use tables::proposition_at;
+use types::{EQUALITY, PropositionNumber, TermNumber};
+use unionfind::{Forest, Joining};
 
-// Joins proposition p, if it is a kept equality; tells whether the labels agree with it.
-fn join_equality(
-    terms: &[TermRow],
-    propositions: &[PropositionRow],
-    marks: &[u8],
-    parents: &mut [u32],
-    offsets: &mut [i64],
-    p: PropositionNumber,
-) -> bool
-    requires fact { let S = set_of terms.now propositions.now in
-        AcceptedSet S × Live S marks.now parents.old offsets.old }
-    requires propositions_in_bounds { (length propositions.now ≤ length marks.now) × (p.0 < length propositions.now) }
-    ensures { Advanced (set_of terms.now propositions.now) marks.now (flat parents.old offsets.old) parents.new offsets.new p.0 result }
-{
-    let k = p.0;
-    if marks[k] == 0 {
-        return true;
-    }
-    let r = proposition_at(propositions, p);
-    if r.kind != EQUALITY {
-        return true;
-    }
-    let a = TermNumber(index(r.left));
-    let b = TermNumber(index(r.right));
-    match join(parents, offsets, a, r.offset, b) {
-        Joining::Joined => true,
-        Joining::Held => true,
-        Joining::Clashed => false,
-    }
-}
-
-// Joins the kept equalities; tells whether the labels agree with all of them.
-pub(crate) fn join_equalities(
-    terms: &[TermRow],
-    propositions: &[PropositionRow],
-    marks: &[u8],
-    parents: &mut [u32],
-    offsets: &mut [i64],
-) -> bool
-    requires fact { let S = set_of terms.now propositions.now in
-        AcceptedSet S × Live S marks.now parents.old offsets.old }
-    requires propositions_in_bounds { length propositions.now ≤ length marks.now }
-    ensures { Equalities (set_of terms.now propositions.now) marks.now parents.new offsets.new (length propositions.now) result }
-{
-    for p in 0..propositions.len() {
-        if !join_equality(
-            terms,
-            propositions,
-            marks,
-            parents,
-            offsets,
-            PropositionNumber(p),
-        ) {
-            return false;
+impl<'a> Kept<'a> {
+    // Joins proposition p, if it is a kept equality; tells whether the labels agree with it.
+    fn join_equality(&self, forest: &mut Forest, p: PropositionNumber) -> bool
+        requires live { Live (set_in self.now) self.now.marks.now forest.old.parents.now forest.old.offsets.now }
+        requires p_in_bounds { p.0 < length self.now.propositions.now }
+        ensures same_columns { SameColumns forest.old forest.new }
+        ensures advanced { Advanced (set_in self.now) self.now.marks.now (flat forest.old.parents.now forest.old.offsets.now) forest.new.parents.now forest.new.offsets.now p.0 result }
+    {
+        if self.marks[p.0] == 0 {
+            return true;
         }
+        let r = proposition_at(self.propositions, p);
+        if r.kind != EQUALITY {
+            return true;
+        }
+        let a = TermNumber(r.left as usize);
+        let b = TermNumber(r.right as usize);
+        forest.join(a, r.offset, b) != Joining::Clashed
     }
-    true
+
+    // Joins the kept equalities; tells whether the labels agree with all of them.
+    pub(crate) fn join_equalities(&self, forest: &mut Forest) -> bool
+        requires { Live (set_in self.now) self.now.marks.now forest.old.parents.now forest.old.offsets.now }
+        ensures same_columns { SameColumns forest.old forest.new }
+        ensures equalities { Equalities (set_in self.now) self.now.marks.now forest.new.parents.now forest.new.offsets.now (length self.now.propositions.now) result }
+    {
+        for p in 0..self.propositions.len() {
+            if !self.join_equality(forest, PropositionNumber(p)) {
+                return false;
+            }
+        }
+        true
+    }
 }

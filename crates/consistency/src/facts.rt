@@ -1,117 +1,94 @@
-// The kept facts that labels can contradict: disequalities, block disequalities, and variables in one class.
-ghost use Rattle.std.specs.Prelude.{◌≡◌, ℕ, ◌≤◌, ◌<◌, length, get_or};
+// The kept facts that labels can contradict: disequalities, block disequalities, and variables in one class. Loops go over the numbers of
+// rows, by which labels and marks are read, too.
+ghost use Rattle.std.specs.Prelude.{◌≡◌, ◌<◌, length};
 ghost use Rattle.integers.specs.Within.{Within};
 ghost use Rattle.labels.specs.Spread.{far};
 ghost use Rattle.labels.specs.View.{view};
 ghost use Rattle.closure.specs.Facts.{comparison};
 ghost use Rattle.closure.specs.Verdict.{holds as labelsHold};
-ghost use Rattle.tables.specs.Limits.{most};
 ghost use Rattle.tables.specs.Rows.{term_in, proposition_in};
-ghost use Rattle.tables.specs.PropositionTable.{AcceptedPropositions};
-ghost use Rattle.unionfind.specs.Forest.{Near};
 ghost use Rattle.joins.specs.Labels.{Columns};
 ghost use Rattle.consistency.specs.Deciding.{Judged, Refuted, Meets};
 
+use crate::Kept;
 use offsets::{is_same, sum};
-use tables::{PropositionRow, TermRow, proposition_at, term_at};
-use types::{BLOCK_DISEQUALITY, DISEQUALITY, MOST, PropositionNumber, TermNumber, VARIABLE, index};
+use tables::{proposition_at, term_at};
+use types::{BLOCK_DISEQUALITY, DISEQUALITY, MOST, PropositionNumber, TermNumber, VARIABLE};
 
-// Whether the labels say a = z + b.
-fn holds(representatives: &[u32], offsets: &[i64], a: TermNumber, z: i64, b: TermNumber) -> bool
-    requires { Columns representatives.now offsets.now × ((a.0 < length representatives.now) × ((b.0 < length representatives.now) × Within far z)) }
-    ensures { result ≡ labelsHold (view representatives.now offsets.now) (comparison a.0 z b.0) }
-{
-    let i = a.0;
-    let j = b.0;
-    if representatives[i] != representatives[j] {
-        return false;
-    }
-    is_same(offsets[i], sum(z, offsets[j]))
+// The labels in columns: by term the representative of its class, and its offset from there.
+#[derive(Clone, Copy)]
+pub(crate) struct Labelling<'a> {
+    pub(crate) representatives: &'a [u32],
+    pub(crate) offsets: &'a [i64],
+    pub(crate) ghost columns: { Columns representatives.now offsets.now },
 }
 
-// Whether the labels contradict proposition p, if it is a kept disequality or block disequality.
-fn is_refuted(
-    propositions: &[PropositionRow],
-    marks: &[u8],
-    representatives: &[u32],
-    offsets: &[i64],
-    p: PropositionNumber,
-) -> bool
-    requires accepted_propositions { AcceptedPropositions (length representatives.now) (length propositions.now) (proposition_in propositions.now) × Columns representatives.now offsets.now }
-    requires propositions_in_bounds { (length propositions.now ≤ length marks.now) × (p.0 < length propositions.now) }
-    ensures { Judged (proposition_in propositions.now) marks.now (view representatives.now offsets.now) p.0 result }
-{
-    let k = p.0;
-    if marks[k] == 0 {
-        return false;
-    }
-    let r = proposition_at(propositions, p);
-    let left = index(r.left);
-    let right = index(r.right);
-    if r.kind == DISEQUALITY {
-        return holds(
-            representatives,
-            offsets,
-            TermNumber(left),
-            r.offset,
-            TermNumber(right),
-        );
-    }
-    if r.kind == BLOCK_DISEQUALITY {
-        return representatives[left] == representatives[right];
-    }
-    false
-}
-
-// Whether the labels contradict a kept disequality or block disequality.
-pub(crate) fn any_refuted(
-    propositions: &[PropositionRow],
-    marks: &[u8],
-    representatives: &[u32],
-    offsets: &[i64],
-) -> bool
-    requires accepted_propositions { AcceptedPropositions (length representatives.now) (length propositions.now) (proposition_in propositions.now) × Columns representatives.now offsets.now }
-    requires propositions_in_bounds { length propositions.now ≤ length marks.now }
-    ensures { Refuted (length propositions.now) (proposition_in propositions.now) marks.now (view representatives.now offsets.now) result }
-{
-    for p in 0..propositions.len() {
-        if is_refuted(
-            propositions,
-            marks,
-            representatives,
-            offsets,
-            PropositionNumber(p),
-        ) {
-            return true;
+impl<'a> Labelling<'a> {
+    // Whether the labels say a = z + b.
+    fn holds(&self, a: TermNumber, z: i64, b: TermNumber) -> bool
+        requires in_bounds { (a.0 < length self.now.representatives.now) × (b.0 < length self.now.representatives.now) }
+        requires z_within { Within far z }
+        ensures { result ≡ labelsHold (view self.now.representatives.now self.now.offsets.now) (comparison a.0 z b.0) }
+    {
+        if self.representatives[a.0] != self.representatives[b.0] {
+            return false;
         }
+        is_same(self.offsets[a.0], sum(z, self.offsets[b.0]))
     }
-    false
 }
 
-// A representative as an index.
-fn wide(x: u32) -> usize
-    ensures { result ≡ x }
-{
-    x as usize
-}
-
-// Whether two variables are in one class: `seen` is 1 for a class with a variable in it, else 0.
-pub(crate) fn variables_meet(terms: &[TermRow], representatives: &[u32]) -> bool
-    requires terms_len_bound { (length terms.now ≤ most) × (length representatives.now ≡ length terms.now) }
-    requires by_index { (t : ℕ) → t < length representatives.now → get_or representatives.now t 0 < length representatives.now }
-    ensures { Meets (length terms.now) (term_in terms.now) representatives.now result }
-{
-    let mut seen = [0u32; MOST];
-    for t in 0..terms.len() {
-        let r = term_at(terms, TermNumber(t));
-        if r.kind != VARIABLE {
-            continue;
+impl<'a> Kept<'a> {
+    // Whether the labels contradict proposition p, if it is a kept disequality or block disequality.
+    fn is_refuted(&self, labels: &Labelling, p: PropositionNumber) -> bool
+        requires in_bounds { (length labels.now.representatives.now ≡ length self.now.terms.now) × (p.0 < length self.now.propositions.now) }
+        ensures { Judged (proposition_in self.now.propositions.now) self.now.marks.now (view labels.now.representatives.now labels.now.offsets.now) p.0 result }
+    {
+        if self.marks[p.0] == 0 {
+            return false;
         }
-        let class = wide(representatives[t]);
-        if seen[class] != 0 {
-            return true;
+        let r = proposition_at(self.propositions, p);
+        let left = r.left as usize;
+        let right = r.right as usize;
+        if r.kind == DISEQUALITY {
+            return labels.holds(TermNumber(left), r.offset, TermNumber(right));
         }
-        seen[class] = 1;
+        if r.kind == BLOCK_DISEQUALITY {
+            return labels.representatives[left] == labels.representatives[right];
+        }
+        false
     }
-    false
+
+    // Whether the labels contradict a kept disequality or block disequality.
+    pub(crate) fn any_refuted(&self, labels: &Labelling) -> bool
+        requires { length labels.now.representatives.now ≡ length self.now.terms.now }
+        ensures { Refuted (length self.now.propositions.now) (proposition_in self.now.propositions.now) self.now.marks.now (view labels.now.representatives.now labels.now.offsets.now) result }
+    {
+        for p in 0..self.propositions.len() {
+            if self.is_refuted(labels, PropositionNumber(p)) {
+                return true;
+            }
+        }
+        false
+    }
+
+    // Whether two variables are in one class.
+    pub(crate) fn variables_meet(&self, labels: &Labelling) -> bool
+        requires { length labels.now.representatives.now ≡ length self.now.terms.now }
+        ensures { Meets (length self.now.terms.now) (term_in self.now.terms.now) labels.now.representatives.now result }
+    {
+        let mut seen = [false; MOST];
+        for t in 0..self.terms.len() {
+            let r = term_at(self.terms, TermNumber(t));
+            if r.kind != VARIABLE {
+                continue;
+            }
+            let class = labels.representatives[t] as usize;
+            let met = seen[class];
+            if met {
+                return true;
+            }
+            seen[class] = true;
+        }
+        false
+    }
 }

@@ -11,10 +11,19 @@ ghost use Rattle.tables.specs.Sets.{set_of, AcceptedSet};
 ghost use Rattle.consistency.specs.Deciding.{Decided};
 
 use congruence::close;
-use equalities::join_equalities;
-use facts::{any_refuted, variables_meet};
+use facts::Labelling;
 use tables::{PropositionRow, TermRow};
-use unionfind::reset;
+use unionfind::{Forest, reset};
+
+// An accepted set, of whose propositions those that are marked are kept.
+#[derive(Clone, Copy)]
+struct Kept<'a> {
+    terms: &'a [TermRow],
+    propositions: &'a [PropositionRow],
+    marks: &'a [u8],
+    ghost accepted: { AcceptedSet (set_of terms.now propositions.now) },
+    ghost marked: { length propositions.now ≤ length marks.now },
+}
 
 // Whether the propositions that are marked are consistent. If they are, the labels are the closure's; else what is left in them is not
 // told. Public for the crates `blame` and `solver`.
@@ -29,15 +38,25 @@ pub fn is_consistent(
     requires representatives_len { (length representatives.old ≡ length terms.now) × (length offsets.old ≡ length terms.now) }
     ensures { Decided (set_of terms.now propositions.now) marks.now representatives.new offsets.new result }
 {
+    let kept = Kept {
+        terms,
+        propositions,
+        marks,
+    };
     reset(representatives, offsets);
-    if !join_equalities(terms, propositions, marks, representatives, offsets) {
+    let mut forest = Forest {
+        parents: representatives,
+        offsets,
+    };
+    if !kept.join_equalities(&mut forest) {
         return false;
     }
-    if !close(terms, representatives, offsets) {
+    if !close(terms, &mut forest) {
         return false;
     }
-    if any_refuted(propositions, marks, representatives, offsets) {
-        return false;
-    }
-    !variables_meet(terms, representatives)
+    let labels = Labelling {
+        representatives,
+        offsets,
+    };
+    !kept.any_refuted(&labels) && !kept.variables_meet(&labels)
 }

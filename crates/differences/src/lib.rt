@@ -2,20 +2,24 @@
 
 #![tactic(auto)]
 
+pub mod set;
+
 ghost use Rattle.std.specs.Prelude.{◌≡◌, ◌≤◌, length};
-ghost use Rattle.points.specs.Places.{Chained};
-ghost use Rattle.points.specs.Homes.{Unique};
+ghost use Rattle.points.specs.Homes.{Homes, Unique};
 ghost use Rattle.marking.specs.Marks.{Room, zeros};
 ghost use Rattle.marking.specs.Classes.{Sides};
-ghost use Rattle.differences.specs.Table.{Based, Given, Placed, Told};
+ghost use Rattle.differences.specs.Table.{Based};
+ghost use Rattle.differences.specs.Views.{PlacedOf, ToldOf};
 
 use expansion::expand;
 use marking::base::{mark_classes, mark_listed};
-use marking::notes::{NOTES, Notes, count_points, note_reader};
-use points::chains::{CLASSES, chain_places};
+use marking::notes::Notes;
+use points::chained::ChainedPlaces;
+use points::chains::{PlaceChains, chain_places};
 use points::homes::{fill_homes, fill_points};
 use points::leads::fill_leads;
-use points::places::{SLOTS, index, linked};
+use points::sides::SidePlaces;
+use set::SetPlaces;
 use settling::settle;
 use types::MOST;
 
@@ -23,199 +27,106 @@ use types::MOST;
 fn clear(table: &mut [u8])
     ensures { table.new ≡ zeros (length table.old) }
 {
-    for k in 0..table.len() {
-        table[k] = 0;
-    }
+    table.fill(0);
 }
 
 // What is set by classes and by disequalities, at homes.
 fn mark_base(
-    n: usize,
+    places: &ChainedPlaces,
     m: usize,
-    left_classes: &[u32],
-    left_heights: &[u64],
-    right_classes: &[u32],
-    right_heights: &[u64],
+    sides: &SidePlaces,
     apart: &[u8],
-    points: &[u32],
-    heights: &[u64],
-    class_first: &[u16],
-    class_next: &[u16],
-    slot_first: &[u16],
-    slot_next: &[u16],
     pairs: &mut [u8],
     notes: &mut Notes,
 )
-    requires chained { Chained n points.now heights.now class_first.now class_next.now slot_first.now slot_next.now × Unique n points.now heights.now }
-    requires sides { Sides n m left_classes.now left_heights.now right_classes.now right_heights.now × (Room n apart.now × Room n pairs.old) }
-    ensures { Based n m points.now heights.now left_classes.now left_heights.now right_classes.now right_heights.now apart.now (length pairs.old) pairs.new }
+    requires unique { let P = places.now in Unique P.n P.classes.now P.heights.now }
+    requires sides { let P = places.now in let S = sides.now in Sides P.n m S.left_classes.now S.left_heights.now S.right_classes.now S.right_heights.now × (Room P.n apart.now × Room P.n pairs.old) }
+    ensures { let P = places.now in let S = sides.now in Based P.n m P.classes.now P.heights.now S.left_classes.now S.left_heights.now S.right_classes.now S.right_heights.now apart.now (length pairs.old) pairs.new }
 {
     clear(pairs);
-    mark_classes(n, points, heights, apart, class_first, class_next, pairs);
-    mark_listed(
-        n,
-        m,
-        left_classes,
-        left_heights,
-        right_classes,
-        right_heights,
-        points,
-        heights,
-        class_first,
-        class_next,
-        slot_first,
-        slot_next,
-        pairs,
-        notes,
-    );
+    mark_classes(places, apart, pairs);
+    mark_listed(places, m, sides, pairs, notes);
 }
 
 // Notes which homes have readers.
 fn note_readers(count: usize, leads: &[u16], homes: &[u32], notes: &mut Notes)
     requires { count ≤ length leads.now }
 {
-    for k in 0..count {
-        let x = linked(leads, k);
-        if x < homes.len() {
-            note_reader(index(homes[x]), notes);
+    for x in &leads[..count] {
+        if let Some(home) = homes.get(usize::from(*x)) {
+            notes.note_reader(*home as usize);
         }
     }
 }
 
-// The same as `pair_table`, with homes, points in chains and leads.
+// The home of each term.
+fn find_homes(set: &SetPlaces, homes: &mut [u32])
+    requires { set.now.n ≤ length homes.old }
+    ensures { let S = set.now in Homes S.n S.classes.now S.heights.now homes.new }
+{
+    let mut chains = PlaceChains::EMPTY;
+    chain_places(set.n, set.classes, set.heights, &mut chains);
+    fill_homes(
+        set.n,
+        set.classes,
+        set.heights,
+        &chains.slot_first,
+        &chains.slot_next,
+        homes,
+    );
+}
+
+// The same as `pair_table`, with homes, points and leads.
 fn fill_table(
-    n: usize,
-    m: usize,
+    set: &SetPlaces,
     count: usize,
-    classes: &[u32],
-    heights: &[u64],
     homes: &[u32],
     points: &[u32],
     leads: &[u16],
-    reads: &[u32],
-    read_heights: &[u64],
-    left_classes: &[u32],
-    left_heights: &[u64],
-    right_classes: &[u32],
-    right_heights: &[u64],
-    apart: &[u8],
-    class_first: &[u16],
-    class_next: &[u16],
-    slot_first: &[u16],
-    slot_next: &[u16],
     pairs: &mut [u8],
 )
-    requires given { Given n m classes.now heights.now reads.now read_heights.now left_classes.now left_heights.now right_classes.now right_heights.now apart.now × Room n pairs.old }
-    requires placed { Placed n count classes.now heights.now homes.now points.now leads.now reads.now read_heights.now }
-    requires chained { Chained n points.now heights.now class_first.now class_next.now slot_first.now slot_next.now }
-    ensures { Told n m classes.now heights.now reads.now read_heights.now left_classes.now left_heights.now right_classes.now right_heights.now apart.now (length pairs.old) pairs.new }
+    requires { PlacedOf set.now count homes.now points.now leads.now × Room set.now.n pairs.old }
+    ensures { ToldOf set.now (length pairs.old) pairs.new }
 {
-    let mut notes = [0u32; NOTES];
-    count_points(points, &mut notes);
+    let mut chains = PlaceChains::EMPTY;
+    let mut notes = Notes::EMPTY;
+    chain_places(set.n, points, set.heights, &mut chains);
+    let places = ChainedPlaces {
+        n: set.n,
+        classes: points,
+        heights: set.heights,
+        class_first: &chains.class_first,
+        class_next: &chains.class_next,
+        slot_first: &chains.slot_first,
+        slot_next: &chains.slot_next,
+    };
+    notes.count_points(points);
     note_readers(count, leads, homes, &mut notes);
-    mark_base(
-        n,
-        m,
-        left_classes,
-        left_heights,
-        right_classes,
-        right_heights,
-        apart,
-        points,
-        heights,
-        class_first,
-        class_next,
-        slot_first,
-        slot_next,
-        pairs,
-        &mut notes,
-    );
+    mark_base(&places, set.m, &set.sides, set.apart, pairs, &mut notes);
     settle(
-        n,
+        &places,
         count,
         leads,
-        points,
-        heights,
-        class_first,
-        class_next,
-        slot_first,
-        slot_next,
         homes,
-        reads,
-        read_heights,
-        apart,
+        set.reads,
+        set.read_heights,
+        set.apart,
         pairs,
         &mut notes,
     );
-    expand(n, classes, heights, homes, pairs);
+    expand(set.n, set.classes, set.heights, homes, pairs);
 }
 
 // The pair table of a set: bit i * n + j is 1 where term i is different from 0 + term j. Public for the crate `columns`.
-pub fn pair_table(
-    n: usize,
-    m: usize,
-    classes: &[u32],
-    heights: &[u64],
-    reads: &[u32],
-    read_heights: &[u64],
-    left_classes: &[u32],
-    left_heights: &[u64],
-    right_classes: &[u32],
-    right_heights: &[u64],
-    apart: &[u8],
-    pairs: &mut [u8],
-)
-    requires { Given n m classes.now heights.now reads.now read_heights.now left_classes.now left_heights.now right_classes.now right_heights.now apart.now × Room n pairs.old }
-    ensures { Told n m classes.now heights.now reads.now read_heights.now left_classes.now left_heights.now right_classes.now right_heights.now apart.now (length pairs.old) pairs.new }
+pub fn pair_table(set: &SetPlaces, pairs: &mut [u8])
+    requires { Room set.now.n pairs.old }
+    ensures { ToldOf set.now (length pairs.old) pairs.new }
 {
-    let mut class_first = [0u16; CLASSES];
-    let mut class_next = [0u16; MOST];
-    let mut slot_first = [0u16; SLOTS];
-    let mut slot_next = [0u16; MOST];
     let mut homes = [0u32; MOST];
     let mut points = [0u32; MOST];
     let mut leads = [0u16; MOST];
-    chain_places(
-        n,
-        classes,
-        heights,
-        &mut class_first,
-        &mut class_next,
-        &mut slot_first,
-        &mut slot_next,
-    );
-    fill_homes(n, classes, heights, &slot_first, &slot_next, &mut homes);
-    fill_points(n, classes, &homes, &mut points);
-    let count = fill_leads(n, &homes, reads, read_heights, &mut leads);
-    chain_places(
-        n,
-        &points,
-        heights,
-        &mut class_first,
-        &mut class_next,
-        &mut slot_first,
-        &mut slot_next,
-    );
-    fill_table(
-        n,
-        m,
-        count,
-        classes,
-        heights,
-        &homes,
-        &points,
-        &leads,
-        reads,
-        read_heights,
-        left_classes,
-        left_heights,
-        right_classes,
-        right_heights,
-        apart,
-        &class_first,
-        &class_next,
-        &slot_first,
-        &slot_next,
-        pairs,
-    );
+    find_homes(set, &mut homes);
+    fill_points(set.n, set.classes, &homes, &mut points);
+    let count = fill_leads(set.n, &homes, set.reads, set.read_heights, &mut leads);
+    fill_table(set, count, &homes, &points, &leads, pairs);
 }

@@ -5,8 +5,7 @@ ghost use Rattle.lists.specs.Filled.{Filled};
 ghost use Rattle.tables.specs.Limits.{most};
 
 use crate::pairs::is_apart;
-use points::places::{Sizes, index};
-use std::num::{wrapping_add_u16, wrapping_add_u32, wrapping_add_u64};
+use points::places::Sizes;
 
 // Room for the classes of LEAST points or more: there are at most 16.
 const LARGE: usize = 32;
@@ -29,7 +28,7 @@ fn size_of(key: u32) -> u32 {
 }
 
 fn class_of(key: u32) -> usize {
-    index(key) % 1024
+    key as usize % 1024
 }
 
 // No class has a level.
@@ -42,14 +41,14 @@ pub(crate) fn clear(levels: &mut [u16])
 }
 
 fn mark_read(reads: &[u32], read: &mut Read) {
-    for t in 0..reads.len() {
-        read[index(reads[t]) % 1024] = true;
+    for class in reads {
+        read[*class as usize % 1024] = true;
     }
 }
 
 // Whether class c is read, and large enough.
 fn is_large(c: usize, least: u32, sizes: &Sizes, read: &Read) -> bool {
-    read[c % 1024] & (least <= sizes[c % 1024])
+    read[c % 1024] && least <= sizes[c % 1024]
 }
 
 // Lists the large classes, and returns how many they are.
@@ -71,20 +70,12 @@ fn list_large(n: usize, least: u32, sizes: &Sizes, read: &Read, large: &mut Larg
 }
 
 // 1 for the classes up to the floor, which share it; for another, one more than the large classes below its key.
-fn level_of(key: u32, floor: u32, large: &Large, count: usize) -> u16
-    requires { count ≤ 32 }
-{
-    let mut level = 1u16;
+fn level_of(key: u32, floor: u32, large: &[u32]) -> u16 {
     if key <= floor {
-        return level;
+        return 1;
     }
-    for k in 0..count {
-        if key <= large[k] {
-            continue;
-        }
-        level = wrapping_add_u16(level, 1);
-    }
-    level
+    let below = large.iter().filter(|other| **other < key).count();
+    ((below % 0x1_0000) as u16).wrapping_add(1)
 }
 
 fn set_level(c: usize, level: u16, levels: &mut [u16]) {
@@ -93,72 +84,67 @@ fn set_level(c: usize, level: u16, levels: &mut [u16]) {
     }
 }
 
-fn set_levels(large: &Large, count: usize, floor: u32, levels: &mut [u16])
-    requires { count ≤ 32 }
-{
-    for k in 0..count {
-        let level = level_of(large[k], floor, large, count);
-        set_level(class_of(large[k]), level, levels);
+fn set_levels(large: &[u32], floor: u32, levels: &mut [u16]) {
+    for key in large {
+        let level = level_of(*key, floor, large);
+        set_level(class_of(*key), level, levels);
     }
 }
 
 // How many points the classes have that are above the key and the floor and not apart from the key's class.
-fn points_above(n: usize, key: u32, floor: u32, large: &Large, count: usize, apart: &[u8]) -> u32
-    requires { (count ≤ 32) × ((n ≤ most) × (n * n ≤ 8 * length apart.now)) }
+fn points_above(n: usize, key: u32, floor: u32, large: &[u32], apart: &[u8]) -> u32
+    requires { (n ≤ most) × (n * n ≤ 8 * length apart.now) }
 {
     let mut points = 0u32;
-    for k in 0..count {
-        if (large[k] <= key) | (large[k] <= floor) {
+    for other in large {
+        if *other <= key || *other <= floor {
             continue;
         }
-        if is_apart(n, class_of(key), class_of(large[k]), apart) {
+        if is_apart(n, class_of(key), class_of(*other), apart) {
             continue;
         }
-        points = wrapping_add_u32(points, size_of(large[k]));
+        points = points.wrapping_add(size_of(*other));
     }
     points
 }
 
 fn product(x: u32, y: u32) -> u64 {
-    x as u64 * y as u64
+    u64::from(x) * u64::from(y)
 }
 
 // How many pairs of points there are of large classes at different levels.
-fn count_pairs(n: usize, floor: u32, large: &Large, count: usize, apart: &[u8]) -> u64
-    requires { (count ≤ 32) × ((n ≤ most) × (n * n ≤ 8 * length apart.now)) }
+fn count_pairs(n: usize, floor: u32, large: &[u32], apart: &[u8]) -> u64
+    requires { (n ≤ most) × (n * n ≤ 8 * length apart.now) }
 {
     let mut pairs = 0u64;
-    for k in 0..count {
-        let above = points_above(n, large[k], floor, large, count, apart);
-        pairs = wrapping_add_u64(pairs, product(size_of(large[k]), above));
+    for key in large {
+        let above = points_above(n, *key, floor, large, apart);
+        pairs = pairs.wrapping_add(product(size_of(*key), above));
     }
     pairs
 }
 
 // The least key above the floor.
-fn next_floor(floor: u32, large: &Large, count: usize) -> u32
-    requires { count ≤ 32 }
-{
+fn next_floor(floor: u32, large: &[u32]) -> u32 {
     let mut next = u32::MAX;
-    for k in 0..count {
-        if (large[k] <= floor) | (next <= large[k]) {
-            continue;
+    for key in large {
+        if floor < *key {
+            next = next.min(*key);
         }
-        next = large[k];
     }
     next
 }
 
 // The lowest floor that leaves room for the pairs. At the last but one of the keys there is room: half of the terms squared.
-fn choose_floor(n: usize, large: &Large, count: usize, apart: &[u8], room: usize) -> u32
-    requires { (count ≤ 32) × ((n ≤ most) × (n * n ≤ 8 * length apart.now)) }
+fn choose_floor(n: usize, large: &[u32], apart: &[u8], room: usize) -> u32
+    requires { (n ≤ most) × (n * n ≤ 8 * length apart.now) }
 {
     let mut floor = 0u32;
     for _ in 0..LARGE {
-        if count_pairs(n, floor, large, count, apart) <= room as u64 {
+        if count_pairs(n, floor, large, apart) <= room as u64 {
             return floor;
         }
-        floor = next_floor(floor, large, count);
+        floor = next_floor(floor, large);
     }
     floor
 }
@@ -175,11 +161,12 @@ pub(crate) fn choose_levels(
     requires { (n ≤ most) × (n * n ≤ 8 * length apart.now) }
 {
     let mut read = [false; 1024];
-    let mut large = [0u32; LARGE];
+    let mut store = [0u32; LARGE];
     mark_read(reads, &mut read);
     clear(levels);
-    let count = list_large(n, LEAST, sizes, &read, &mut large);
-    let floor = choose_floor(n, &large, count, apart, room);
-    set_levels(&large, count, floor, levels);
+    let count = list_large(n, LEAST, sizes, &read, &mut store);
+    let large = &store[..count];
+    let floor = choose_floor(n, large, apart, room);
+    set_levels(large, floor, levels);
     1 < count
 }

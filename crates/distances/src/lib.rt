@@ -5,17 +5,19 @@
 
 pub mod building;
 mod counting;
+pub mod index;
 mod levels;
 mod pairs;
 mod placing;
 mod ranks;
+mod sorted;
 
 ghost use Rattle.std.specs.Prelude.{◌≡◌, ◌+◌, ◌<◌, ◌≤◌, length, slice_index, slice_index_or};
 ghost use Rattle.tables.specs.Limits.{most};
 ghost use Rattle.points.specs.Places.{class_slots, top};
 ghost use Rattle.distances.specs.Distances.{bucket_of_distance, buckets, candidate_of, comes_before};
 
-use points::places::{TOP, index, linked};
+use points::places::{Place, TOP, linked};
 use types::MOST;
 
 // The buckets of distances.
@@ -28,15 +30,15 @@ pub const STARTS: usize = BUCKETS + 1;
 pub const ENTRIES: usize = 0x10000;
 
 // The bucket of a distance. Distances in arithmetic progression are spread out. Public for the crate `marking`.
-pub fn bucket(a: u32, p: u64, b: u32, q: u64) -> usize
-    requires { (a ≤ most) × ((b ≤ most) × ((p < top) × (q < top))) }
-    ensures { (result ≡ bucket_of_distance a p b q) × (result < buckets) }
+pub fn bucket(x: Place, y: Place) -> usize
+    requires { (x.class ≤ most) × ((y.class ≤ most) × ((x.height < top) × (y.height < top))) }
+    ensures { (result ≡ bucket_of_distance x.class x.height y.class y.height) × (result < buckets) }
 {
-    let far = p + TOP - q;
+    let far = x.height + TOP - y.height;
     let mixed = (far % 0x1_0000_0000
         + far / 0x1_0000_0000 * 31
-        + a as u64 * 40503
-        + b as u64 * 30011)
+        + x.class as u64 * 40503
+        + y.class as u64 * 30011)
         % 0x1_0000_0000;
     (mixed * 0x9E37_79B1 % 0x1_0000_0000 / 0x8_0000) as usize
 }
@@ -46,8 +48,8 @@ pub fn is_before(a: u32, b: u32, levels: &[u16]) -> bool
     requires { (a ≤ most) × ((b ≤ most) × (length levels.now ≡ class_slots)) }
     ensures { result ≡ comes_before levels.now a b }
 {
-    let low = linked(levels, index(a));
-    let high = linked(levels, index(b));
+    let low = linked(levels, a as usize);
+    let high = linked(levels, b as usize);
     (0 < low) & (low < high)
 }
 
@@ -62,7 +64,7 @@ pub(crate) fn member(a: u32, rank: u8, from: &[u16], order: &[u16]) -> usize
     requires { (a ≤ most) × (length from.now ≡ class_slots) }
     ensures { result ≡ slice_index_or order.now (slice_index from.now a + rank) most }
 {
-    let k = sum(from[index(a)], rank);
+    let k = sum(from[a as usize], rank);
     if k < order.len() {
         return linked(order, k);
     }

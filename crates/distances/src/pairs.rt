@@ -1,13 +1,13 @@
 // Which pairs of points are in the buckets, and in which.
 ghost use Rattle.std.specs.Prelude.{◌≡◌, ◌*◌, ◌<◌, ◌≤◌, true, false, length};
 ghost use Rattle.tables.specs.Limits.{most};
-ghost use Rattle.points.specs.Places.{Column};
 ghost use Rattle.distances.specs.Distances.{buckets};
-ghost use Rattle.distances.specs.Placing.{Classes, Open, Paired, pair_bucket};
+ghost use Rattle.distances.specs.Placing.{Open, Paired, pair_bucket};
 
+use crate::sorted::Layout;
 use crate::{bucket, is_before};
 use pairbits::test_bit;
-use points::places::index;
+use points::places::Place;
 
 // Whether a and b are apart, or one of them is no class.
 pub(crate) fn is_apart(n: usize, a: usize, b: usize, apart: &[u8]) -> bool
@@ -24,20 +24,29 @@ pub(crate) fn is_apart(n: usize, a: usize, b: usize, apart: &[u8]) -> bool
 }
 
 // Whether a comes before b, and they are not apart.
-pub(crate) fn is_paired(n: usize, a: u32, b: u32, levels: &[u16], apart: &[u8]) -> bool
-    requires { Classes n apart.now levels.now × ((a ≤ n) × (b ≤ n)) }
-    ensures { result ≡ false → Paired n apart.now levels.now a b → ⊥ }
+pub(crate) fn is_paired(layout: &Layout, a: u32, b: u32) -> bool
+    requires { (a ≤ layout.now.n) × (b ≤ layout.now.n) }
+    ensures { let L = layout.now in result ≡ false → Paired L.n L.apart.now L.levels.now a b → ⊥ }
 {
-    if !is_before(a, b, levels) {
+    if !is_before(a, b, layout.levels) {
         return false;
     }
-    !is_apart(n, index(a), index(b), apart)
+    !is_apart(layout.n, a as usize, b as usize, layout.apart)
 }
 
 // The bucket of the points i and j.
-pub(crate) fn bucket_of(n: usize, i: usize, j: usize, points: &[u32], heights: &[u64]) -> usize
-    requires { Column n points.now heights.now × ((i < n) × (j < n)) }
-    ensures { (result ≡ pair_bucket points.now heights.now i j) × (result < buckets) }
+pub(crate) fn bucket_of(layout: &Layout, i: usize, j: usize) -> usize
+    requires { (i < layout.now.n) × (j < layout.now.n) }
+    ensures { let L = layout.now in (result ≡ pair_bucket L.points.now L.heights.now i j) × (result < buckets) }
 {
-    bucket(points[i], heights[i], points[j], heights[j])
+    bucket(
+        Place {
+            class: layout.points[i],
+            height: layout.heights[i],
+        },
+        Place {
+            class: layout.points[j],
+            height: layout.heights[j],
+        },
+    )
 }

@@ -1,5 +1,5 @@
 -- The frames for a text, from what the reader answers and leaves.
-use Rattle.std.specs.Prelude.{ℕ, false, List}
+use Rattle.std.specs.Prelude.{ℕ, false, List, Result, Ok, Err}
 use Rattle.std.proofs.Math.Path.{◌≡◌}
 use Rattle.std.proofs.Common.{sym, ◌∙◌, ap, arith}
 use Rattle.std.proofs.Math.Option.{none}
@@ -9,8 +9,6 @@ use Rattle.tables.specs.TableFaults.{tables_fault}
 use Rattle.text.specs.Reading.{Records, Reading, accepted, refused, reading}
 use Rattle.text.specs.Output.{outcome_frames, refusal_frame, reading_frames, solved}
 use Rattle.text.proofs.Sound.{Sound, accepted_sound}
-use Rattle.types.specs.declared.ReadResult.{ReadResult}
-use Rattle.types.specs.declared.ReadResult.TheVariants.{Accepted, Refused}
 use Rattle.types.specs.declared.Counts.{Counts}
 use Rattle.frames.specs.Rows.{Rows, rows_with}
 use Rattle.reader.specs.Loading.{counts_of}
@@ -24,17 +22,17 @@ run_solved : (R : Records) (C : Rows) → Sound R → run (read_tables (counts_o
 unfolding run solved
 run_solved R C s = rw (terms_held R C s, propositions_held R C s, questions_held R C s)
 
-module _ (text : List ℕ) (C : Rows) (r : ReadResult) (D : Rows) (a : ReadAs text C r D) where
-  pub refused_frames : short_rows C ≡ false → (f : Fault) → r ≡ Refused f → reading_frames (reading text) ≡ refusal_frame f
+module _ (text : List ℕ) (C : Rows) (r : Result Counts Fault) (D : Rows) (a : ReadAs text C r D) where
+  pub refused_frames : short_rows C ≡ false → (f : Fault) → r ≡ Err f → reading_frames (reading text) ≡ refusal_frame f
   unfolding read_into
   refused_frames room f e = go (reading text) (sym e ∙ (rw room at a.result))
     where
-      go : (o : Reading) → Refused f ≡ answer o → reading_frames o ≡ refusal_frame f
+      go : (o : Reading) → Err f ≡ answer o → reading_frames o ≡ refusal_frame f
       go (accepted R) h = let z : ◌≡◌ {A = ℕ} 0 1 = cc in absurd (omega arith)
       go (refused g) h = let p : f ≡ g = cc in rw p
 
-  module _ (c : Counts) (e : r ≡ Accepted c) where
-    reads : ReadAs text C (Accepted c) D
+  module _ (c : Counts) (e : r ≡ Ok c) where
+    reads : ReadAs text C (Ok c) D
     reads = rw e at a
 
     pub accepted_tables : tables_fault most (read_tables c D) ≡ none

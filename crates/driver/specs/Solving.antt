@@ -1,5 +1,5 @@
 -- The frames that the memory holds after the solver's call on accepted tables. Only those of a contradiction need blame.
-use Rattle.std.specs.Prelude.{ℕ, ◌≤◌, ◌≡◌, ℤ, pos, length, take, replicate}
+use Rattle.std.specs.Prelude.{ℕ, ◌≤◌, ◌≡◌, ℤ, pos, length, take, replicate, Result, Ok, Err}
 use Rattle.std.proofs.Math.Path.{sym, ap}
 use Rattle.std.proofs.Common.{◌∙◌, arith, mul-le-mul_left, mul-le-mul_right, length-take-le}
 use Rattle.std.proofs.Math.Option.{Option, none, some}
@@ -7,7 +7,6 @@ use Rattle.std.proofs.lemmas.List.{length-replicate}
 use Rattle.types.specs.declared.Blame.{Blame}
 use Rattle.types.specs.declared.Fault.{Fault}
 use Rattle.types.specs.declared.Verdict.{Verdict}
-use Rattle.types.specs.declared.Solved.{Solved}
 use Rattle.outcome.specs.PairBits.{pair_bytes}
 use Rattle.outcome.specs.Outcome.{Outcome}
 use Rattle.tables.specs.Limits.{most}
@@ -20,7 +19,7 @@ use Rattle.text.specs.Output.{label_frames, blame_frames, middle, outcome_frames
 use Rattle.text.specs.OutputSize.{largest_output}
 use Rattle.text.proofs.OutputSize.{outcome_size}
 use Rattle.writer.specs.Frames.{set_frames}
-use Rattle.solver.specs.Call.{terms_of, propositions_of, questions_of, length_terms, length_propositions, length_questions, run, run_with, solved_by, used, Answered}
+use Rattle.solver.specs.Call.{terms_of, propositions_of, questions_of, length_terms, length_propositions, length_questions, run, run_with, used, Answered}
 use Rattle.solver.proofs.Demands.{used_run, beyond_kept, refused_exactly}
 
 abbrev pub zero_memory : Memory
@@ -65,7 +64,7 @@ module _ (T : Tables) (accepted : tables_fault most T ≡ none) where
       (omega (arith, length_propositions T, few.few_propositions))
       (omega (arith, length_questions T, few.few_questions))
 
-  module _ {b : Blame} (N : Memory) (r : Solved) (a : Answered b T zero_memory N r) where
+  module _ {b : Blame} (N : Memory) (r : Result Verdict Fault) (a : Answered b T zero_memory N r) where
     beyond : Beyond T zero_memory N
     beyond = beyond_kept b T zero_memory N r a no_fault
 
@@ -80,11 +79,11 @@ module _ (T : Tables) (accepted : tables_fault most T ≡ none) where
     pub same_labels : length (take T.terms.count N.representatives) ≡ length (take T.terms.count N.offsets)
     same_labels = let h = handed_on in length-take-le T.terms.count N.representatives h.representatives ∙ sym (length-take-le T.terms.count N.offsets h.offsets)
 
-    frames : (v : Verdict) → r ≡ solved_by v → outcome_frames (run_with b T) ≡ set_frames v (middle v (used T v N)) (take T.questions.count N.answers)
+    frames : (v : Verdict) → r ≡ Ok v → outcome_frames (run_with b T) ≡ set_frames v (middle v (used T v N)) (take T.questions.count N.answers)
     unfolding outcome_frames
     frames v e = sym (ap outcome_frames (used_run b T zero_memory N r a no_fault v e))
 
-    pub satisfiable_frames : r ≡ Solved.Satisfiable
+    pub satisfiable_frames : r ≡ Ok Verdict.Satisfiable
         → outcome_frames (run T)
         ≡ set_frames Verdict.Satisfiable (label_frames 0 (take T.terms.count N.representatives) (take T.terms.count N.offsets)) (take T.questions.count N.answers)
     unfolding outcome_frames
@@ -98,10 +97,10 @@ module _ (T : Tables) (accepted : tables_fault most T ≡ none) where
         same = rw (← found)
 
     pub contradiction_frames : b ≡ Blame.Asked
-        → r ≡ Solved.Contradiction
+        → r ≡ Ok Verdict.Contradiction
         → outcome_frames (run T)
         ≡ set_frames Verdict.Contradiction (blame_frames (take T.propositions.count N.marks)) (take T.questions.count N.answers)
     contradiction_frames asked e = rw asked at (frames Verdict.Contradiction e)
 
-    pub never_refused : (f : Fault) → r ≡ Solved.Refused f → ⊥
+    pub never_refused : (f : Fault) → r ≡ Err f → ⊥
     never_refused f e = not_both (sym no_fault ∙ (refused_exactly b T zero_memory N r a f).0 e)

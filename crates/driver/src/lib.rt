@@ -18,7 +18,7 @@ ghost use Rattle.driver.specs.Within.{WritesOutput};
 use reader::read;
 use solver::solve;
 use tables::{PropositionRow, QuestionRow, TermRow};
-use types::{Blame, Counts, MOST, PAIR_BYTES, ReadResult, Solved};
+use types::{Blame, Counts, MOST, PAIR_BYTES, Verdict};
 use writer::{put_contradictory_set, put_refusal, put_satisfiable_set};
 
 // The bytes of a text that are judged.
@@ -48,7 +48,7 @@ fn answer_set(
     let mut marks = [0u8; MOST];
     let mut pairs = [0u8; PAIR_BYTES];
     let mut answers = [0u8; MOST];
-    let solved = solve(
+    let Ok(verdict) = solve(
         n,
         terms,
         m,
@@ -61,14 +61,14 @@ fn answer_set(
         &mut marks,
         &mut pairs,
         &mut answers,
-    );
-    match solved {
-        Solved::Satisfiable => {
+    ) else {
+        unreachable!("the tables are accepted")
+    };
+    match verdict {
+        Verdict::Satisfiable => {
             put_satisfiable_set(out, &representatives[..n], &offsets[..n], &answers[..q])
         }
-        Solved::Contradiction => put_contradictory_set(out, &marks[..m], &answers[..q]),
-        // Does not happen: the tables are accepted.
-        Solved::Refused(_) => 0,
+        Verdict::Contradiction => put_contradictory_set(out, &marks[..m], &answers[..q]),
     }
 }
 
@@ -81,10 +81,8 @@ fn answer_text(text: &[u8], out: &mut [u8]) -> usize
     let mut propositions = [[0u64; 4]; MOST];
     let mut questions = [[0u64; 3]; MOST];
     match read(text, &mut terms, &mut propositions, &mut questions) {
-        ReadResult::Refused(fault) => put_refusal(out, fault),
-        ReadResult::Accepted(counts) => {
-            answer_set(counts, &terms, &propositions, &questions, out)
-        }
+        Ok(counts) => answer_set(counts, &terms, &propositions, &questions, out),
+        Err(fault) => put_refusal(out, fault),
     }
 }
 
@@ -96,8 +94,6 @@ pub fn write_output(text: &[u8], out: &mut [u8]) -> usize
     if out.len() < LARGEST {
         return 0;
     }
-    if text.len() < JUDGED {
-        return answer_text(text, out);
-    }
-    answer_text(&text[0..JUDGED], out)
+    let judged = text.len().min(JUDGED);
+    answer_text(&text[..judged], out)
 }

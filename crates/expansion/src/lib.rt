@@ -2,6 +2,8 @@
 
 #![tactic(auto)]
 
+mod terms;
+
 ghost use Rattle.std.specs.Prelude.{◌≡◌, true, ◌≢◌, ℕ, ◌*◌, ◌<◌, ◌≤◌, length};
 ghost use Rattle.buckets.specs.Buckets.{Chains};
 ghost use Rattle.tables.specs.Limits.{most};
@@ -16,7 +18,8 @@ use buckets::chain;
 use marking::base::{mark_masked, own_homes};
 use marking::bits::set_pair;
 use points::chains::CLASSES;
-use points::places::{index, linked};
+use points::places::linked;
+use terms::HomedTerms;
 use types::{MOST, TermNumber};
 use words::{common, next_one, or_word, put, rest, word_at};
 
@@ -26,7 +29,7 @@ fn all_own(n: usize, homes: &[u32]) -> bool
     ensures { result ≡ true → AllOwn n homes.now }
 {
     for t in 0..n {
-        if index(homes[t]) != t {
+        if homes[t] as usize != t {
             return false;
         }
     }
@@ -39,7 +42,7 @@ fn mark_hosts(n: usize, homes: &[u32], hosts: &mut [u64])
     ensures { Hosts n homes.now hosts.new }
 {
     for t in 0..n {
-        let h = index(homes[t]);
+        let h = homes[t] as usize;
         if h == t {
             continue;
         }
@@ -48,22 +51,14 @@ fn mark_hosts(n: usize, homes: &[u32], hosts: &mut [u64])
 }
 
 // Sets the bits of i with the terms whose home is v.
-fn set_guests(
-    n: usize,
-    i: TermNumber,
-    v: usize,
-    homes: &[u32],
-    first: &[u16],
-    next: &[u16],
-    table: &mut [u8],
-)
-    requires { Inside n i.0 v × (Chains n class_slots homes.now first.now next.now × Room n table.old) }
-    ensures { Adds n (Upto n (GuestPair homes.now i.0 v)) table.old table.new }
+fn set_guests(terms: &HomedTerms, i: TermNumber, v: usize, table: &mut [u8])
+    requires { let T = terms.now in Inside T.n i.0 v × Room T.n table.old }
+    ensures { let T = terms.now in Adds T.n (Upto T.n (GuestPair T.homes.now i.0 v)) table.old table.new }
 {
-    let mut j = linked(first, v);
-    while j < n {
-        set_pair(n, i, TermNumber(j), table);
-        j = linked(next, j);
+    let mut j = linked(terms.first, v);
+    while j < terms.n {
+        set_pair(terms.n, i, TermNumber(j), table);
+        j = linked(terms.next, j);
     }
 }
 
@@ -80,182 +75,105 @@ fn width(n: usize, w: usize) -> usize
 }
 
 // The pairs of i with the terms whose homes are in word w of a mask.
-fn expand_word(
-    n: usize,
-    i: TermNumber,
-    w: usize,
-    word: u64,
-    homes: &[u32],
-    first: &[u16],
-    next: &[u16],
-    table: &mut [u8],
-)
-    requires { Inside n i.0 (64 * w) × (Own n homes.now × (Chains n class_slots homes.now first.now next.now × Room n table.old)) }
-    ensures { Adds n (WordPair homes.now i.0 w word) table.old table.new }
+fn expand_word(terms: &HomedTerms, i: TermNumber, w: usize, word: u64, table: &mut [u8])
+    requires { let T = terms.now in (Inside T.n i.0 (64 * w)) × Room T.n table.old }
+    ensures { let T = terms.now in Adds T.n (WordPair T.homes.now i.0 w word) table.old table.new }
 {
-    let end = width(n, w);
+    let end = width(terms.n, w);
     let mut b = next_one(word, 0);
     while b < end {
-        set_guests(n, i, 64 * w + b, homes, first, next, table);
+        set_guests(terms, i, 64 * w + b, table);
         b = next_one(word, b + 1);
     }
 }
 
 // The pairs of home i with the terms whose homes are in the mask.
-fn expand_others(
-    n: usize,
-    i: TermNumber,
-    homes: &[u32],
-    others: &[u64],
-    first: &[u16],
-    next: &[u16],
-    table: &mut [u8],
-)
-    requires n_le_most { (n ≤ most) × (Own n homes.now × (Covered n homes.now others.now i.0 table.old × Chains n class_slots homes.now first.now next.now)) }
-    requires i_lt_n { (i.0 < n) × ((home homes.now i.0 ≡ i.0) × Room n table.old) }
-    ensures { ExpandedIn n homes.now (Row i.0) table.old table.new }
+fn expand_others(terms: &HomedTerms, i: TermNumber, others: &[u64], table: &mut [u8])
+    requires n_le_most { let T = terms.now in Covered T.n T.homes.now others.now i.0 table.old }
+    requires i_lt_n { let T = terms.now in (i.0 < T.n) × ((home T.homes.now i.0 ≡ i.0) × Room T.n table.old) }
+    ensures { let T = terms.now in ExpandedIn T.n T.homes.now (Row i.0) table.old table.new }
 {
-    let start = i.0 * n;
+    let start = i.0 * terms.n;
     let mut w = 0;
-    while 64 * w < n {
+    while 64 * w < terms.n {
         let word = common(start, table, others, 64 * w);
-        expand_word(n, i, w, word, homes, first, next, table);
+        expand_word(terms, i, w, word, table);
         w += 1;
     }
 }
 
 // The pairs of home i with all terms: those of its class, `own`, by words.
-fn expand_row(
-    n: usize,
-    i: TermNumber,
-    classes: &[u32],
-    homes: &[u32],
-    own: &[u64],
-    hosts: &[u64],
-    first: &[u16],
-    next: &[u16],
-    table: &mut [u8],
-)
-    requires n_le_most { (n ≤ most) × (Own n homes.now × (Hosts n homes.now hosts.now × Chains n class_slots homes.now first.now next.now)) }
-    requires i_lt_n { (i.0 < n) × ((home homes.now i.0 ≡ i.0) × (OwnMask n classes.now (class classes.now i.0) own.now × Room n table.old)) }
-    requires by_index { ((t : ℕ) → t < n → class classes.now (home homes.now t) ≡ class classes.now t) × ClassSet n classes.now homes.now table.old }
-    ensures { ExpandedIn n homes.now (Row i.0) table.old table.new }
+fn expand_row(terms: &HomedTerms, i: TermNumber, own: &[u64], table: &mut [u8])
+    requires i_lt_n { let T = terms.now in (i.0 < T.n) × ((home T.homes.now i.0 ≡ i.0) × (OwnMask T.n T.classes.now (class T.classes.now i.0) own.now × Room T.n table.old)) }
+    requires by_index { let T = terms.now in (((t : ℕ) → t < T.n → class T.classes.now (home T.homes.now t) ≡ class T.classes.now t)) × ClassSet T.n T.classes.now T.homes.now table.old }
+    ensures { let T = terms.now in ExpandedIn T.n T.homes.now (Row i.0) table.old table.new }
 {
     let mut same = [0u64; 8];
     let mut reach = [0u64; 8];
     let mut others = [0u64; 8];
-    own_homes(n, i.0, homes, first, next, &mut same);
+    own_homes(
+        terms.n,
+        i.0,
+        terms.homes,
+        terms.first,
+        terms.next,
+        &mut same,
+    );
     rest(own, &same, &mut reach);
-    rest(hosts, &reach, &mut others);
-    mark_masked(n, i, i.0, &reach, table);
-    expand_others(n, i, homes, &others, first, next, table);
+    rest(terms.hosts, &reach, &mut others);
+    mark_masked(terms.n, i, i.0, &reach, table);
+    expand_others(terms, i, &others, table);
 }
 
 // The pairs of the homes of class a.
 fn expand_members(
-    n: usize,
+    terms: &HomedTerms,
     a: usize,
-    classes: &[u32],
     class_first: &[u16],
     class_next: &[u16],
-    homes: &[u32],
     own: &[u64],
-    hosts: &[u64],
-    first: &[u16],
-    next: &[u16],
     table: &mut [u8],
 )
-    requires n_le_most { (n ≤ most) × (Own n homes.now × (Hosts n homes.now hosts.now × Chains n class_slots homes.now first.now next.now)) }
-    requires a_lt_n { (a < n) × (Chains n class_slots classes.now class_first.now class_next.now × (OwnMask n classes.now a own.now × Room n table.old)) }
-    requires by_index { ((t : ℕ) → t < n → class classes.now (home homes.now t) ≡ class classes.now t) × ClassSet n classes.now homes.now table.old }
-    ensures { ExpandedIn n homes.now (ClassRows classes.now homes.now a n) table.old table.new }
+    requires a_lt_n { let T = terms.now in (a < T.n) × (Chains T.n class_slots T.classes.now class_first.now class_next.now × (OwnMask T.n T.classes.now a own.now × Room T.n table.old)) }
+    requires by_index { let T = terms.now in (((t : ℕ) → t < T.n → class T.classes.now (home T.homes.now t) ≡ class T.classes.now t)) × ClassSet T.n T.classes.now T.homes.now table.old }
+    ensures { let T = terms.now in ExpandedIn T.n T.homes.now (ClassRows T.classes.now T.homes.now a T.n) table.old table.new }
 {
     let mut t = linked(class_first, a);
-    while t < n {
+    while t < terms.n {
         let i = t;
         t = linked(class_next, i);
-        if index(homes[i]) != i {
+        if terms.homes[i] as usize != i {
             continue;
         }
-        expand_row(
-            n,
-            TermNumber(i),
-            classes,
-            homes,
-            own,
-            hosts,
-            first,
-            next,
-            table,
-        );
+        expand_row(terms, TermNumber(i), own, table);
     }
 }
 
 // The same, with a mask of the terms of the class.
 fn expand_class(
-    n: usize,
+    terms: &HomedTerms,
     a: usize,
-    classes: &[u32],
     class_first: &[u16],
     class_next: &[u16],
-    homes: &[u32],
-    hosts: &[u64],
-    first: &[u16],
-    next: &[u16],
     table: &mut [u8],
 )
-    requires n_le_most { (n ≤ most) × (Own n homes.now × (Hosts n homes.now hosts.now × Chains n class_slots homes.now first.now next.now)) }
-    requires a_lt_n { (a < n) × (Chains n class_slots classes.now class_first.now class_next.now × Room n table.old) }
-    requires by_index { ((t : ℕ) → t < n → class classes.now (home homes.now t) ≡ class classes.now t) × ClassSet n classes.now homes.now table.old }
-    ensures { ExpandedIn n homes.now (ClassRows classes.now homes.now a n) table.old table.new }
+    requires a_lt_n { let T = terms.now in (a < T.n) × (Chains T.n class_slots T.classes.now class_first.now class_next.now × Room T.n table.old) }
+    requires by_index { let T = terms.now in (((t : ℕ) → t < T.n → class T.classes.now (home T.homes.now t) ≡ class T.classes.now t)) × ClassSet T.n T.classes.now T.homes.now table.old }
+    ensures { let T = terms.now in ExpandedIn T.n T.homes.now (ClassRows T.classes.now T.homes.now a T.n) table.old table.new }
 {
     let mut own = [0u64; 8];
-    own_homes(n, a, classes, class_first, class_next, &mut own);
-    expand_members(
-        n,
-        a,
-        classes,
-        class_first,
-        class_next,
-        homes,
-        &own,
-        hosts,
-        first,
-        next,
-        table,
-    );
+    own_homes(terms.n, a, terms.classes, class_first, class_next, &mut own);
+    expand_members(terms, a, class_first, class_next, &own, table);
 }
 
 // The pairs of all homes.
-fn expand_homes(
-    n: usize,
-    classes: &[u32],
-    class_first: &[u16],
-    class_next: &[u16],
-    homes: &[u32],
-    hosts: &[u64],
-    first: &[u16],
-    next: &[u16],
-    table: &mut [u8],
-)
-    requires n_le_most { (n ≤ most) × (Own n homes.now × (Hosts n homes.now hosts.now × Chains n class_slots homes.now first.now next.now)) }
-    requires by_index { ((t : ℕ) → t < n → class classes.now t < n) × (Chains n class_slots classes.now class_first.now class_next.now × Room n table.old) }
-    requires by_index_2 { ((t : ℕ) → t < n → class classes.now (home homes.now t) ≡ class classes.now t) × ClassSet n classes.now homes.now table.old }
-    ensures { ExpandedIn n homes.now (HomeRows homes.now n) table.old table.new }
+fn expand_homes(terms: &HomedTerms, class_first: &[u16], class_next: &[u16], table: &mut [u8])
+    requires by_index { let T = terms.now in (((t : ℕ) → t < T.n → class T.classes.now t < T.n)) × (Chains T.n class_slots T.classes.now class_first.now class_next.now × Room T.n table.old) }
+    requires by_index_2 { let T = terms.now in (((t : ℕ) → t < T.n → class T.classes.now (home T.homes.now t) ≡ class T.classes.now t)) × ClassSet T.n T.classes.now T.homes.now table.old }
+    ensures { let T = terms.now in ExpandedIn T.n T.homes.now (HomeRows T.homes.now T.n) table.old table.new }
 {
-    for a in 0..n {
-        expand_class(
-            n,
-            a,
-            classes,
-            class_first,
-            class_next,
-            homes,
-            hosts,
-            first,
-            next,
-            table,
-        );
+    for a in 0..terms.n {
+        expand_class(terms, a, class_first, class_next, table);
     }
 }
 
@@ -291,7 +209,7 @@ fn copy_rows(n: usize, homes: &[u32], table: &mut [u8])
     ensures { ExpandedIn n homes.now (GuestRows homes.now n) table.old table.new }
 {
     for i in 0..n {
-        let h = index(homes[i]);
+        let h = homes[i] as usize;
         if h == i {
             continue;
         }
@@ -316,16 +234,14 @@ pub fn expand(n: usize, classes: &[u32], heights: &[u64], homes: &[u32], table: 
     mark_hosts(n, homes, &mut hosts);
     chain(n, homes, &mut first, &mut next);
     chain(n, classes, &mut class_first, &mut class_next);
-    expand_homes(
+    let terms = HomedTerms {
         n,
         classes,
-        &class_first,
-        &class_next,
         homes,
-        &hosts,
-        &first,
-        &next,
-        table,
-    );
+        hosts: &hosts,
+        first: &first,
+        next: &next,
+    };
+    expand_homes(&terms, &class_first, &class_next, table);
     copy_rows(n, homes, table);
 }

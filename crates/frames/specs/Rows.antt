@@ -1,5 +1,5 @@
 -- The rows of the three tables, and the records that they hold.
-use Rattle.std.specs.Prelude.{ℕ, ◌+◌, ◌<◌, ◌≤◌, ◌≡◌, refl, List, [], ◌∷◌, ◌++◌, map, length, take, drop, set}
+use Rattle.std.specs.Prelude.{◌+◌, ◌<◌, ◌≤◌, ◌≡◌, refl, List, [], ◌∷◌, ◌++◌, map, length, take, drop, set, Some}
 use Rattle.std.proofs.Common.{arith, length-append, take_at}
 use Rattle.std.proofs.lemmas.List.{map-append, length-map}
 use Rattle.std.proofs.Math.Option.{some}
@@ -13,9 +13,10 @@ use Rattle.tables.specs.QuestionTable.{asked}
 use Rattle.text.specs.Frames as frames
 use Rattle.text.specs.Reading.{Records, nothing, with_frame}
 use Rattle.lines.specs.declared.Frame.{Frame}
-use Rattle.lines.specs.declared.Frame.TheVariants.{Term, Proposition, Question, Malformed}
+use Rattle.lines.specs.declared.Frame.TheVariants.{Term, Proposition, Question}
 use Rattle.lines.specs.Meaning.{meaning}
 use Rattle.types.specs.declared.Counts.{Counts}
+use Rattle.frames.specs.declared.ReadRows.{ReadRows}
 use Rattle.frames.specs.Taking.{group_count, Counted, Listing}
 
 pub record Rows : Type 0 where
@@ -26,11 +27,19 @@ pub record Rows : Type 0 where
 abbrev pub rows : List Row → List Row → List Row → Rows
 rows terms propositions questions = record { terms = terms; propositions = propositions; questions = questions }
 
+abbrev pub rows_of : ReadRows → Rows
+rows_of t = rows t.terms t.propositions t.questions
+
 -- each table has room for the most records
 pub record RoomForMost (C : Rows) : Type 0 where
   pub terms : most ≤ length C.terms
   pub propositions : most ≤ length C.propositions
   pub questions : most ≤ length C.questions
+
+-- no records are read, and there is room for the most
+pub record NoneRead (t : ReadRows) : Type 0 where
+  pub counts : t.counts ≡ record { terms = 0; propositions = 0; questions = 0 }
+  pub room : RoomForMost (rows_of t)
 
 -- each table of D is as long as that of C
 pub record SameSizes (C D : Rows) : Type 0 where
@@ -46,14 +55,12 @@ abbrev pub counted : Counts → Frame → Counts
 counted c (Term r) = record { terms = c.terms + 1; propositions = c.propositions; questions = c.questions }
 counted c (Proposition p) = record { terms = c.terms; propositions = c.propositions + 1; questions = c.questions }
 counted c (Question q) = record { terms = c.terms; propositions = c.propositions; questions = c.questions + 1 }
-counted c Malformed = c
 
 -- the rows with a frame's record after those counted
 abbrev pub put : Counts → Frame → Rows → Rows
 put c (Term r) C = rows (set C.terms c.terms (row_of_term r)) C.propositions C.questions
 put c (Proposition p) C = rows C.terms (set C.propositions c.propositions (row_of_proposition p)) C.questions
 put c (Question q) C = rows C.terms C.propositions (set C.questions c.questions (row_of_question q))
-put c Malformed C = C
 
 -- what storing a frame's record leaves
 pub record Stored (c : Counts) (f : Frame) (C : Rows) (r : Counts) (D : Rows) : Type 0 where
@@ -94,8 +101,8 @@ listing_rows_with R C₀ e = rw e (overwrite_front row_of_term R.terms C₀.term
 pub put_rows_with : (R : Records) (C : Rows) (c : Counts) (f : Frame) (g : frames.Frame)
     → RoomForMost C
     → Counted c R
-    → group_count c f < most
-    → meaning f ≡ some g
+    → group_count c (Some f) < most
+    → meaning (Some f) ≡ some g
     → put c f (rows_with R C) ≡ rows_with (with_frame R g) C
 unfolding rows_with with_frame
 put_rows_with R C c (Term r) g room counts below e =
@@ -107,9 +114,8 @@ put_rows_with R C c (Proposition p) g room counts below e =
 put_rows_with R C c (Question q) g room counts below e =
     let h : frames.question (asked q) ≡ g = cc in
     rw (← h, counts.questions, overwrite_more (λ q. row_of_question (asking q)) R.questions C.questions (asked q) (omega arith))
-put_rows_with R C c Malformed g room counts below e = let z : ◌≡◌ {A = ℕ} 0 1 = cc in absurd (omega arith)
 
-pub counted_more : (R : Records) (c : Counts) (f : Frame) (g : frames.Frame) → Counted c R → meaning f ≡ some g → Counted (counted c f) (with_frame R g)
+pub counted_more : (R : Records) (c : Counts) (f : Frame) (g : frames.Frame) → Counted c R → meaning (Some f) ≡ some g → Counted (counted c f) (with_frame R g)
 unfolding with_frame
 counted_more R c (Term r) g counts e =
     let h : frames.term r ≡ g = cc in
@@ -120,4 +126,3 @@ counted_more R c (Proposition p) g counts e =
 counted_more R c (Question q) g counts e =
     let h : frames.question (asked q) ≡ g = cc in
     rw (← h) (record { terms = counts.terms; propositions = counts.propositions; questions = omega (arith, length-append R.questions (asked q ∷ [])) })
-counted_more R c Malformed g counts e = let z : ◌≡◌ {A = ℕ} 0 1 = cc in absurd (omega arith)

@@ -1,5 +1,6 @@
 -- A frame after the records read so far, which the code holds by their counts and rows.
-use Rattle.std.specs.Prelude.{ℕ, ◌<◌, ◌≡◌, refl, Bool, true, false, List, [], ◌∷◌, map, leb, length, take, get_or}
+use Rattle.std.specs.Prelude.{ℕ, ◌<◌, ◌≡◌, refl, Bool, true, false, List, [], ◌∷◌, map, leb, length, take, get_or, Result, Ok, Err, Some, None}
+use Rattle.std.specs.Prelude as rust
 use Rattle.std.proofs.Common.{ap, sym, ◌∙◌, arith, get_or-take}
 use Rattle.std.proofs.Math.Option.{Option, none, some}
 use borrow.Author.Tests.{eq-eqb, ne_eqb, lt-leb}
@@ -14,15 +15,13 @@ use Rattle.tables.specs.Rows.{Row, term_of_row, row_of_term, term_in}
 use Rattle.text.specs.Frames.{Frame, term}
 use Rattle.text.specs.Reading.{Records, is_empty, frame_fault}
 use Rattle.lines.specs.declared.Frame.{Frame as Judged}
-use Rattle.lines.specs.declared.Frame.TheVariants.{Term, Proposition, Question, Malformed as Bad}
+use Rattle.lines.specs.declared.Frame.TheVariants.{Term, Proposition, Question}
 use Rattle.types.specs.declared.Counts.{Counts}
-use Rattle.frames.specs.declared.Taken.{Taken}
-use Rattle.frames.specs.declared.Taken.TheVariants.{Accepted, Refused}
 
--- the code's answer for a refusal, or for none
-abbrev pub taken : Option Refusal → Taken
-taken none = Accepted
-taken (some r) = Refused r
+-- the refusal of an answer, or none
+abbrev pub refusal_of : {A : Type 0} → Result A Refusal → Option Refusal
+refusal_of (Ok a) = none
+refusal_of (Err r) = some r
 
 -- 9 first
 abbrev pub frame_refusal : Records → Option Frame → Option Refusal
@@ -30,19 +29,19 @@ frame_refusal R none = some Malformed
 frame_refusal R (some f) = frame_fault R f
 
 -- the records of a frame's own table
-abbrev pub group_count : Counts → Judged → ℕ
-group_count c (Term r) = c.terms
-group_count c (Proposition p) = c.propositions
-group_count c (Question q) = c.questions
-group_count c Bad = 0
+abbrev pub group_count : Counts → rust.Option Judged → ℕ
+group_count c (Some (Term r)) = c.terms
+group_count c (Some (Proposition p)) = c.propositions
+group_count c (Some (Question q)) = c.questions
+group_count c None = 0
 
 -- the frame's table, with n records, has room for its record if the frame is accepted
-abbrev Admits : Taken → ℕ → Type 0
-Admits Accepted n = n < most
-Admits (Refused r) n = Unit
+abbrev Admits : {A : Type 0} → Result A Refusal → ℕ → Type 0
+Admits (Ok a) n = n < most
+Admits (Err r) n = Unit
 
 -- an answer r, for a frame whose table has n records
-pub record Took (n : ℕ) (r : Taken) (Fault : Type 0) : Type 0 where
+pub record Took {A : Type 0} (n : ℕ) (r : Result A Refusal) (Fault : Type 0) : Type 0 where
   pub room : Admits r n
   pub fault : Fault
 

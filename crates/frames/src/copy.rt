@@ -1,33 +1,12 @@
 // The rows that were read, copied to the front of the caller's.
-ghost use Rattle.std.specs.Prelude.{◌≡◌, ◌≤◌, length, take};
-ghost use Rattle.lists.specs.Overwrite.{overwrite};
+ghost use Rattle.std.specs.Prelude.{◌≡◌};
 ghost use Rattle.frames.specs.Rows.{rows};
 ghost use Rattle.frames.specs.Copying.{RoomFor, copied};
 
 use tables::{PropositionRow, QuestionRow, TermRow};
 use types::Counts;
 
-// The first n rows of a table of terms or of questions.
-fn copy_triples(n: usize, from: &[[u64; 3]], to: &mut [[u64; 3]])
-    requires { (n ≤ length from.now) × (n ≤ length to.old) }
-    ensures { to.new ≡ overwrite (take n from.now) to.old }
-{
-    for k in 0..n {
-        to[k] = from[k];
-    }
-}
-
-// The first n rows of a table of propositions.
-fn copy_quadruples(n: usize, from: &[[u64; 4]], to: &mut [[u64; 4]])
-    requires { (n ≤ length from.now) × (n ≤ length to.old) }
-    ensures { to.new ≡ overwrite (take n from.now) to.old }
-{
-    for k in 0..n {
-        to[k] = from[k];
-    }
-}
-
-// The counted rows of all three tables.
+// The counted rows of all three tables. The rows are the caller's, each table lent on its own, as the C interface lends them.
 pub fn copy_rows(
     counts: Counts,
     own_terms: &[TermRow],
@@ -43,7 +22,7 @@ pub fn copy_rows(
         let C = rows terms.old propositions.old questions.old in
         rows terms.new propositions.new questions.new ≡ copied counts own C }
 {
-    copy_triples(counts.terms, own_terms, terms);
-    copy_quadruples(counts.propositions, own_propositions, propositions);
-    copy_triples(counts.questions, own_questions, questions);
+    terms[..counts.terms].copy_from_slice(&own_terms[..counts.terms]);
+    propositions[..counts.propositions].copy_from_slice(&own_propositions[..counts.propositions]);
+    questions[..counts.questions].copy_from_slice(&own_questions[..counts.questions]);
 }

@@ -3,15 +3,38 @@
 
 #![tactic(auto)]
 
+ghost use Rattle.frames.specs.Rows.{NoneRead};
+
 pub mod copy;
 pub mod store;
 pub mod take;
 
-use types::Refusal;
+use tables::{PropositionRow, QuestionRow, TermRow};
+use types::{Counts, MOST};
 
-// What a frame meets after the records read so far.
-#[derive(Clone, Copy)]
-pub enum Taken {
-    Accepted,
-    Refused(Refusal),
+// How many records are read so far, and rows for the most, which hold them in front.
+#[derive(Drop)]
+pub struct ReadRows {
+    pub counts: Counts,
+    pub terms: [TermRow; MOST],
+    pub propositions: [PropositionRow; MOST],
+    pub questions: [QuestionRow; MOST],
+}
+
+impl ReadRows {
+    // No records.
+    pub fn new() -> ReadRows
+        ensures { NoneRead result }
+    {
+        ReadRows {
+            counts: Counts {
+                terms: 0,
+                propositions: 0,
+                questions: 0,
+            },
+            terms: [[0; 3]; MOST],
+            propositions: [[0; 4]; MOST],
+            questions: [[0; 3]; MOST],
+        }
+    }
 }

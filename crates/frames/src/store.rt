@@ -2,44 +2,30 @@
 ghost use Rattle.std.specs.Prelude.{◌<◌};
 ghost use Rattle.tables.specs.Limits.{most};
 ghost use Rattle.frames.specs.Taking.{group_count};
-ghost use Rattle.frames.specs.Rows.{rows, RoomForMost, Stored};
+ghost use Rattle.frames.specs.Rows.{rows_of, Stored};
 
+use crate::ReadRows;
 use lines::Frame;
-use tables::{PropositionRow, QuestionRow, TermRow, proposition_row, question_row, term_row};
-use types::Counts;
+use tables::{proposition_row, question_row, term_row};
 
-pub fn store(
-    frame: Frame,
-    counts: Counts,
-    terms: &mut [TermRow],
-    propositions: &mut [PropositionRow],
-    questions: &mut [QuestionRow],
-) -> Counts
-    requires frame_bound { group_count counts frame < most }
-    requires room_for_most { RoomForMost (rows terms.old propositions.old questions.old) }
-    ensures { Stored counts frame (rows terms.old propositions.old questions.old) result
-        (rows terms.new propositions.new questions.new) }
-{
-    let mut next = counts;
-    match frame {
-        Frame::Term(t) => {
-            let at = counts.terms;
-            terms[at] = term_row(t);
-            next.terms = at + 1;
-            next
+impl ReadRows {
+    pub fn store(&mut self, frame: Frame)
+        requires { group_count self.old.counts (Some frame) < most }
+        ensures { Stored self.old.counts frame (rows_of self.old) self.new.counts (rows_of self.new) }
+    {
+        match frame {
+            Frame::Term(t) => {
+                self.terms[self.counts.terms] = term_row(t);
+                self.counts.terms += 1;
+            }
+            Frame::Proposition(p) => {
+                self.propositions[self.counts.propositions] = proposition_row(p);
+                self.counts.propositions += 1;
+            }
+            Frame::Question(q) => {
+                self.questions[self.counts.questions] = question_row(q);
+                self.counts.questions += 1;
+            }
         }
-        Frame::Proposition(p) => {
-            let at = counts.propositions;
-            propositions[at] = proposition_row(p);
-            next.propositions = at + 1;
-            next
-        }
-        Frame::Question(q) => {
-            let at = counts.questions;
-            questions[at] = question_row(q);
-            next.questions = at + 1;
-            next
-        }
-        Frame::Malformed => next,
     }
 }

@@ -1,5 +1,5 @@
 // A judged frame after the records read so far.
-ghost use Rattle.std.specs.Prelude.{◌≡◌, List, ◌≤◌, leb, length};
+ghost use Rattle.std.specs.Prelude.{◌≡◌, List, ◌≤◌, leb, length, Some, IfOk};
 ghost use Rattle.tables.specs.Limits.{most};
 ghost use Rattle.tables.specs.Records.{is_same_atom};
 ghost use Rattle.lists.specs.Search.{any};
@@ -7,9 +7,8 @@ ghost use Rattle.tables.specs.QuestionTable.{asked};
 ghost use Rattle.text.specs.Reading.{Records, frame_fault};
 ghost use Rattle.text.specs.Frames.{term, proposition, question};
 ghost use Rattle.lines.specs.Meaning.{meaning};
-ghost use Rattle.frames.specs.Taking.{Listing, Counted, Took, group_count, taken, frame_refusal};
+ghost use Rattle.frames.specs.Taking.{Listing, Counted, Took, group_count, refusal_of, frame_refusal};
 
-use crate::Taken;
 use lines::Frame;
 use tables::atoms::same_atom;
 use tables::{TermRow, term_at};
@@ -17,7 +16,8 @@ use types::{
     Counts, DEREF, MOST, PropositionRecord, QuestionRecord, Refusal, TermNumber, TermRecord,
 };
 
-// One of the first `count` records is of the same atom.
+// One of the first `count` records is of the same atom. A loop: with `any` over the numbers the proof did not close (what the closure
+// answered for each number stayed unknown).
 fn listed(t: TermRecord, count: usize, terms: &[TermRow]) -> bool
     requires { count ≤ length terms.now }
     ensures { (rs : List TermRecord) → count ≡ length rs → Listing terms.now rs → result ≡ any (is_same_atom t) rs }
@@ -37,71 +37,73 @@ fn is_unlisted(number: u64, terms: usize) -> bool
     terms <= number as usize
 }
 
-fn take_term(t: TermRecord, counts: Counts, terms: &[TermRow]) -> Taken
+fn take_term(t: TermRecord, counts: Counts, terms: &[TermRow]) -> Result<(), Refusal>
     requires { most ≤ length terms.now }
     ensures { Took counts.terms result
-        ((R : Records) → Counted counts R → Listing terms.now R.terms → result ≡ taken (frame_fault R (term t))) }
+        ((R : Records) → Counted counts R → Listing terms.now R.terms → refusal_of result ≡ frame_fault R (term t)) }
 {
     if 0 < counts.propositions {
-        return Taken::Refused(Refusal::GroupOrder);
+        return Err(Refusal::GroupOrder);
     }
     if 0 < counts.questions {
-        return Taken::Refused(Refusal::GroupOrder);
+        return Err(Refusal::GroupOrder);
     }
     if MOST <= counts.terms {
-        return Taken::Refused(Refusal::TooManyTerms);
+        return Err(Refusal::TooManyTerms);
     }
     if t.kind == DEREF {
         if is_unlisted(t.number, counts.terms) {
-            return Taken::Refused(Refusal::InnerNotListed);
+            return Err(Refusal::InnerNotListed);
         }
-        return Taken::Accepted;
+        return Ok(());
     }
     if listed(t, counts.terms, terms) {
-        return Taken::Refused(Refusal::AtomListedTwice);
+        return Err(Refusal::AtomListedTwice);
     }
-    Taken::Accepted
+    Ok(())
 }
 
-fn take_proposition(p: PropositionRecord, counts: Counts) -> Taken
+fn take_proposition(p: PropositionRecord, counts: Counts) -> Result<(), Refusal>
     ensures { Took counts.propositions result
-        ((R : Records) → Counted counts R → result ≡ taken (frame_fault R (proposition p))) }
+        ((R : Records) → Counted counts R → refusal_of result ≡ frame_fault R (proposition p)) }
 {
     if 0 < counts.questions {
-        return Taken::Refused(Refusal::GroupOrder);
+        return Err(Refusal::GroupOrder);
     }
     if MOST <= counts.propositions {
-        return Taken::Refused(Refusal::TooManyPropositions);
+        return Err(Refusal::TooManyPropositions);
     }
     if is_unlisted(p.left, counts.terms) | is_unlisted(p.right, counts.terms) {
-        return Taken::Refused(Refusal::PropositionTermNotListed);
+        return Err(Refusal::PropositionTermNotListed);
     }
-    Taken::Accepted
+    Ok(())
 }
 
-fn take_question(q: QuestionRecord, counts: Counts) -> Taken
+fn take_question(q: QuestionRecord, counts: Counts) -> Result<(), Refusal>
     ensures { Took counts.questions result
-        ((R : Records) → Counted counts R → result ≡ taken (frame_fault R (question (asked q)))) }
+        ((R : Records) → Counted counts R → refusal_of result ≡ frame_fault R (question (asked q))) }
 {
     if MOST <= counts.questions {
-        return Taken::Refused(Refusal::TooManyQuestions);
+        return Err(Refusal::TooManyQuestions);
     }
     if is_unlisted(q.left, counts.terms) | is_unlisted(q.right, counts.terms) {
-        return Taken::Refused(Refusal::QuestionTermNotListed);
+        return Err(Refusal::QuestionTermNotListed);
     }
-    Taken::Accepted
+    Ok(())
 }
 
-// A frame after the records R read so far: the counts are theirs, and the rows start with their terms.
-pub fn take_frame(frame: Frame, counts: Counts, terms: &[TermRow]) -> Taken
+// A frame after the records R read so far: the counts are theirs, and the rows start with their terms. A line that holds none is refused.
+pub fn take_frame(frame: Option<Frame>, counts: Counts, terms: &[TermRow]) -> Result<Frame, Refusal>
     requires { most ≤ length terms.now }
-    ensures { Took (group_count counts frame) result
-        ((R : Records) → Counted counts R → Listing terms.now R.terms → result ≡ taken (frame_refusal R (meaning frame))) }
+    ensures took { Took (group_count counts frame) result
+        ((R : Records) → Counted counts R → Listing terms.now R.terms → refusal_of result ≡ frame_refusal R (meaning frame)) }
+    ensures accepted { IfOk result (λ accepted. frame ≡ Some accepted) }
 {
+    let frame = frame.ok_or(Refusal::Malformed)?;
     match frame {
-        Frame::Term(t) => take_term(t, counts, terms),
-        Frame::Proposition(p) => take_proposition(p, counts),
-        Frame::Question(q) => take_question(q, counts),
-        Frame::Malformed => Taken::Refused(Refusal::Malformed),
+        Frame::Term(t) => take_term(t, counts, terms)?,
+        Frame::Proposition(p) => take_proposition(p, counts)?,
+        Frame::Question(q) => take_question(q, counts)?,
     }
+    Ok(frame)
 }

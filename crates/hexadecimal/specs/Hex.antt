@@ -1,5 +1,5 @@
 -- Laws of digits, of the bytes that a line spells, and of the numbers that bytes spell.
-use Rattle.std.specs.Prelude.{ℕ, zero, suc, ◌+◌, ◌*◌, ◌-◌, ◌^◌, ◌≤◌, ◌<◌, ◌≡◌, refl, pos, negsuc, ◌-ℤ◌, length, set, get_or}
+use Rattle.std.specs.Prelude.{ℕ, zero, suc, ◌+◌, ◌*◌, ◌-◌, ◌^◌, ◌≤◌, ◌<◌, ◌≡◌, refl, pos, negsuc, ◌-ℤ◌, length, set, get_or, Some, None}
 use Rattle.std.proofs.Math.Path.{ap}
 use Rattle.std.proofs.Common.{sym, ◌∙◌, arith, pow-suc, mul_assoc, lt-ltb, le-ltb, to_z, add-one, length-append, drop-cons, take-suc, take-suc-set}
 use mathlib.Core.List.{List, [], ◌∷◌, ◌++◌, append_assoc, append-nil}
@@ -9,14 +9,13 @@ use Rattle.std.specs.Int.{w64}
 use Rattle.std.proofs.Math.ListN.{take, drop, drop_of_length-le}
 use Rattle.text.specs.Lines.{digit, cons_byte, bytes_of, big, signed}
 use Rattle.text.proofs.Digits.{digit_only}
-use Rattle.hexadecimal.specs.declared.Spelled.TheVariants.{Value, Bad}
 use Rattle.hexadecimal.specs.Spelling.{spelled, pair_byte}
 
-pub spelled_value : (o : Option ℕ) (v : ℕ) → spelled o ≡ Value v → o ≡ some v
+pub spelled_value : (o : Option ℕ) (v : ℕ) → spelled o ≡ Some v → o ≡ some v
 spelled_value none v e = let z : ◌≡◌ {A = ℕ} 0 1 = cc in absurd (omega arith)
 spelled_value (some w) v e = cc
 
-pub spelled_bad : (o : Option ℕ) → spelled o ≡ Bad → o ≡ none
+pub spelled_bad : (o : Option ℕ) → spelled o ≡ None → o ≡ none
 spelled_bad none e = refl
 spelled_bad (some w) e = let z : ◌≡◌ {A = ℕ} 0 1 = cc in absurd (omega arith)
 
@@ -69,14 +68,14 @@ module _ (line bytes : List ℕ) (k : ℕ) (so_far : bytes_of line ≡ prefixed 
     rest : Option (List ℕ)
     rest = bytes_of (drop (2 * (k + 1)) line)
 
-    pub decode_none : spelled (pair_byte (digit (get_or line (2 * k) 0)) (digit (get_or line (2 * k + 1) 0))) ≡ Bad → bytes_of line ≡ none
+    pub decode_none : spelled (pair_byte (digit (get_or line (2 * k) 0)) (digit (get_or line (2 * k + 1) 0))) ≡ None → bytes_of line ≡ none
     unfolding high low rest
     decode_none e =
         let f : bytes_of (drop (2 * k) line) ≡ none = bytes_of_pair line k within ∙ cons_byte_none high low rest (spelled_bad (pair_byte high low) e) in
         rw f at so_far
 
     pub decode_more : (b : ℕ)
-        → spelled (pair_byte (digit (get_or line (2 * k) 0)) (digit (get_or line (2 * k + 1) 0))) ≡ Value b
+        → spelled (pair_byte (digit (get_or line (2 * k) 0)) (digit (get_or line (2 * k + 1) 0))) ≡ Some b
         → k < length bytes
         → bytes_of line ≡ prefixed (take (k + 1) (set bytes k b)) (bytes_of (drop (2 * (k + 1)) line))
     unfolding high low rest

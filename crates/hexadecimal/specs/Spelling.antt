@@ -1,13 +1,12 @@
 -- What the values of the code stand for.
-use Rattle.std.specs.Prelude.{ℕ, ◌+◌, ◌*◌}
+use Rattle.std.specs.Prelude.{ℕ, ◌+◌, ◌*◌, Some, None}
+use Rattle.std.specs.Prelude as rust
 use Rattle.std.proofs.Math.Option.{Option, none, some}
-use Rattle.hexadecimal.specs.declared.Spelled.{Spelled}
-use Rattle.hexadecimal.specs.declared.Spelled.TheVariants.{Value, Bad}
 
--- the answer for a value, or for none
-abbrev pub spelled : Option ℕ → Spelled
-spelled none = Bad
-spelled (some v) = Value v
+-- the code's Option of a value, or of none
+abbrev pub spelled : Option ℕ → rust.Option ℕ
+spelled none = None
+spelled (some v) = Some v
 
 -- the byte of a high and a low digit
 abbrev pub pair_byte : Option ℕ → Option ℕ → Option ℕ

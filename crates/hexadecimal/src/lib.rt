@@ -2,31 +2,24 @@
 
 #![tactic(auto)]
 
-ghost use Rattle.std.specs.Prelude.{◌≡◌, ◌/◌, ◌≤◌, ◌<◌, length, take};
+ghost use Rattle.std.specs.Prelude.{◌≡◌, ◌/◌, ◌≤◌, ◌<◌, length, take, is_some, IfSome};
 ghost use Rattle.std.proofs.Math.Option.{some, none};
 ghost use Rattle.lists.specs.Search.{choose};
 ghost use Rattle.text.specs.Lines.{digit, digit_of_value, bytes_of, big, signed};
 ghost use Rattle.hexadecimal.specs.Spelling.{spelled, pair_byte};
 
-// The value of one digit, or of two.
-#[derive(Clone, Copy)]
-pub(crate) enum Spelled {
-    Value(u8),
-    Bad,
-}
-
 // The value of a digit: 0 to 9, A to F.
-fn digit(c: u8) -> Spelled
+fn digit(c: u8) -> Option<u8>
     ensures { result ≡ spelled (digit c) }
 {
     match c {
-        b'0'..=b'9' => Spelled::Value(c - b'0'),
-        b'A'..=b'F' => Spelled::Value(c - b'A' + 10),
-        _ => Spelled::Bad,
+        b'0'..=b'9' => Some(c - b'0'),
+        b'A'..=b'F' => Some(c - b'A' + 10),
+        _ => None,
     }
 }
 
-// And back: the digit of a value below 16.
+// And back: the digit of a value below 16. By two ranges, as the scope asks; std's `char` has no capital digits.
 pub fn digit_of(v: u8) -> u8
     requires { v < 16 }
     ensures { result ≡ digit_of_value v }
@@ -35,34 +28,26 @@ pub fn digit_of(v: u8) -> u8
 }
 
 // The byte that two digits spell.
-fn byte(high: u8, low: u8) -> Spelled
+fn byte(high: u8, low: u8) -> Option<u8>
     ensures { result ≡ spelled (pair_byte (digit high) (digit low)) }
 {
-    let Spelled::Value(h) = digit(high) else {
-        return Spelled::Bad;
-    };
-    let Spelled::Value(l) = digit(low) else {
-        return Spelled::Bad;
-    };
-    Spelled::Value(16 * h + l)
+    Some(16 * digit(high)? + digit(low)?)
 }
 
-// The bytes that a line spells, written from the front of `bytes`; false where it spells none.
-pub fn decode(line: &[u8], bytes: &mut [u8]) -> bool
+// The bytes that a line spells, written to the front of `bytes`, and how many they are; None where it spells none.
+pub fn decode(line: &[u8], bytes: &mut [u8]) -> Option<usize>
     requires { length line.now / 2 ≤ length bytes.old }
-    ensures { bytes_of line.now ≡ choose result (some (take (length line.now / 2) bytes.new)) none }
+    ensures spelled { bytes_of line.now ≡ choose (is_some result) (some (take (length line.now / 2) bytes.new)) none }
+    ensures size { IfSome result (λ size. size ≡ length line.now / 2) }
 {
     let size = line.len() / 2;
     if size * 2 < line.len() {
-        return false;
+        return None;
     }
-    for k in 0..size {
-        let Spelled::Value(b) = byte(line[2 * k], line[2 * k + 1]) else {
-            return false;
-        };
-        bytes[k] = b;
+    for (k, pair) in line.chunks_exact(2).enumerate() {
+        bytes[k] = byte(pair[0], pair[1])?;
     }
-    true
+    Some(size)
 }
 
 // The number that at most four bytes spell, high byte first.
@@ -71,8 +56,8 @@ pub fn number(bytes: &[u8]) -> u32
     ensures { result ≡ big bytes.now }
 {
     let mut n: u32 = 0;
-    for k in 0..bytes.len() {
-        n = n * 256 + bytes[k] as u32;
+    for b in bytes {
+        n = n * 256 + u32::from(*b);
     }
     n
 }
@@ -81,9 +66,5 @@ pub fn number(bytes: &[u8]) -> u32
 pub fn offset(bits: u32) -> i64
     ensures { result ≡ signed 32 bits }
 {
-    if bits < 0x8000_0000 {
-        bits as i64
-    } else {
-        bits as i64 - 0x1_0000_0000
-    }
+    i64::from(bits.cast_signed())
 }

@@ -1,7 +1,8 @@
 -- Joins of dereferences of one address, one after another.
-use Rattle.std.specs.Prelude.{ℕ, ◌<◌, ◌≡◌, refl, Bool, true, false, List, ℤ, pos, ◌+ℤ◌, length}
-use Rattle.std.proofs.Common.{sym, ◌∙◌, ap, arith, SFits}
-use Rattle.integers.specs.Compare.{eq_ℤ, eq_ℤ_true}
+use Rattle.std.specs.Prelude.{ℕ, ◌<◌, ◌≡◌, refl, Bool, true, false, ◌&&◌, eqb, List, ℤ, pos, ◌+ℤ◌, length}
+use Rattle.std.proofs.Common.{sym, ◌∙◌, ap, arith, SFits, eqb-true, int_eq}
+use Rattle.std.proofs.lemmas.Bool.Decides.{Decides-int_eq}
+use Rattle.lists.specs.Booleans.{and_true}
 use Rattle.rules.specs.Assignments.{Placement, Holds}
 use Rattle.std.specs.Int.{w64}
 use Rattle.integers.specs.Within.{Within, within_zero}
@@ -70,13 +71,13 @@ pub reads_by :
     r ≡ rec y →
     r.kind ≡ deref_kind →
     Addressed p0 o0 p o r other →
-    at.term.0 ≡ other.term.0 →
     (b : Bool) →
-    b ≡ eq_ℤ at.offset other.offset →
+    b ≡ (eqb other.term.0 at.term.0 && int_eq other.offset at.offset) →
     Reads rec p0 o0 p o y at b
-reads_by {rec} {p0} {o0} {p} {o} {y} {r} {at} {other} e k A c true t =
-    it_does A.unchanged (rw e at k) (c ∙ rw e at A.class) (eq_ℤ_true at.offset other.offset (sym t) ∙ rw e at A.address)
-reads_by e k A c false t = does_not A.unchanged
+reads_by {rec} {p0} {o0} {p} {o} {y} {r} {at} {other} e k A true t =
+    let h = and_true (eqb other.term.0 at.term.0) (int_eq other.offset at.offset) (sym t) in
+    it_does A.unchanged (rw e at k) (sym (eqb-true _ _ h.0) ∙ rw e at A.class) (sym ((Decides-int_eq other.offset at.offset).0 h.1) ∙ rw e at A.address)
+reads_by e k A false t = does_not A.unchanged
 
 pub found_unchanged : {p0 p : List ℕ} {o0 o : List ℤ} {t : ℕ} {r : Root} → Found p0 o0 p o t r → Unchanged p0 o0 p o
 found_unchanged F = record { links = F.links; same = F.same; long = F.long }

@@ -1,5 +1,5 @@
 -- The addresses that dereferences read, and the look for two of one address with different labels.
-use Rattle.std.specs.Prelude.{ℕ, zero, suc, ◌+◌, ◌-◌, ◌*◌, ◌/◌, ◌%◌, ◌^◌, ◌<◌, ◌≤◌, ◌≡◌, refl, Bool, true, false, not, ◌||◌, List, eqb, ltb, ℤ, pos, ◌+ℤ◌, length, get_or}
+use Rattle.std.specs.Prelude.{Option, Some, None, ℕ, zero, suc, ◌+◌, ◌-◌, ◌*◌, ◌/◌, ◌%◌, ◌^◌, ◌<◌, ◌≤◌, ◌≡◌, refl, Bool, true, false, not, ◌||◌, List, eqb, ltb, ℤ, pos, ◌+ℤ◌, length, get_or}
 use Rattle.std.proofs.Common.{sym, ◌∙◌, arith, mul-le-mul, div-lt_iff_lt-mul, mod-lt, SFits, to_z, of_z, ltb-false}
 use Rattle.std.proofs.Math.Arith.{digits_lt, digits_div, digits_mod}
 use Rattle.std.specs.Int.{w64}
@@ -20,7 +20,7 @@ use Rattle.tables.specs.Records.{TermRecord, deref_kind}
 use Rattle.tables.specs.Rows.{Row, term_in}
 use Rattle.tables.specs.TermTable.{AcceptedTerms}
 use Rattle.tables.proofs.TermTable.{inner_before, offset_within}
-use Rattle.lastlook.specs.declared.Look.{Look}
+use Rattle.lastlook.specs.declared.Reader.{Reader}
 
 -- accepted terms, and a label for each
 pub record Labelled (terms : List Row) (reps : List ℕ) (offs : List ℤ) : Type 0 where
@@ -56,15 +56,15 @@ pub data Unequal (rec : ℕ → TermRecord) (P : Placement) (x y : ℕ) : Bool �
   unequal : SameAddress rec P x y → (Holds P x (pos 0) y → ⊥) → Unequal rec P x y true
   equal : (SameAddress rec P x y → Holds P x (pos 0) y) → Unequal rec P x y false
 
--- what a test whether a note, one more than a term, names one with the label of x finds
-pub data Alike (n : ℕ) (P : Placement) (reader x : ℕ) : Bool → Type 0 where
-  alike : 0 < reader → reader ≤ n → Holds P (reader - 1) (pos 0) x → Alike n P reader x true
+-- what a test whether a note names a term with the label of x finds
+pub data Alike (n : ℕ) (P : Placement) (reader : Reader) (x : ℕ) : Bool → Type 0 where
+  alike : {r : TermNumber} → reader ≡ Reader.One r → r.0 < n → Holds P r.0 (pos 0) x → Alike n P reader x true
   not_told : Alike n P reader x false
 
 -- what a look at all dereferences finds
-pub data Looked (n : ℕ) (rec : ℕ → TermRecord) (P : Placement) : Look → Type 0 where
-  pair : {x y : TermNumber} → x.0 < n → y.0 < n → SameAddress rec P x.0 y.0 → (Holds P x.0 (pos 0) y.0 → ⊥) → Looked n rec P (Look.Pair x y)
-  closed : ((x y : ℕ) → x < n → y < n → SameAddress rec P x y → Holds P x (pos 0) y) → Looked n rec P Look.Closed
+pub data Looked (n : ℕ) (rec : ℕ → TermRecord) (P : Placement) : Option (TermNumber × TermNumber) → Type 0 where
+  pair : {x y : TermNumber} → x.0 < n → y.0 < n → SameAddress rec P x.0 y.0 → (Holds P x.0 (pos 0) y.0 → ⊥) → Looked n rec P (Some (x, y))
+  closed : ((x y : ℕ) → x < n → y < n → SameAddress rec P x y → Holds P x (pos 0) y) → Looked n rec P None
 
 -- a test of two numbers that were read
 pub signed_same : (a b : ℤ) → SFits w64 a → SFits w64 b → eq_ℤ (to_z w64 (of_z w64 a)) (to_z w64 (of_z w64 b)) ≡ eq_ℤ a b
@@ -111,6 +111,12 @@ module _ {rec : ℕ → TermRecord} {P : Placement} where
   meeting_by dx dy b true e = meet (record { deref_x = dx; deref_y = dy; block = b; position = eq_ℤ_true _ _ (sym e) })
   meeting_by dx dy b false e = apart (λ s. eq_ℤ_false _ _ (sym e) s.position)
 
+  pub not_met_false : {x y : ℕ} → Meeting rec P x y false → Unequal rec P x y false
+  not_met_false (apart f) = equal (λ s. absurd (f s))
+
+  pub met_true : {x y : ℕ} → Meeting rec P x y true → SameAddress rec P x y
+  met_true (meet s) = s
+
   pub not_met : {x y : ℕ} {r : Bool} → Meeting rec P x y r → not r ≡ true → Unequal rec P x y false
   not_met (meet s) e = let z : ◌≡◌ {A = ℕ} 0 1 = cc in absurd (omega arith)
   not_met (apart f) e = equal (λ s. absurd (f s))
@@ -127,24 +133,28 @@ module _ {rec : ℕ → TermRecord} {P : Placement} where
   pub not_unequal : {x y : ℕ} → Unequal rec P x y false → SameAddress rec P x y → Holds P x (pos 0) y
   not_unequal (equal f) = f
 
-  pub unequal_pair : {n : ℕ} {x y : TermNumber} → x.0 < n → y.0 < n → Unequal rec P x.0 y.0 true → Looked n rec P (Look.Pair x y)
+  pub unequal_pair : {n : ℕ} {x y : TermNumber} → x.0 < n → y.0 < n → Unequal rec P x.0 y.0 true → Looked n rec P (Some (x, y))
   unequal_pair hx hy (unequal s m) = pair hx hy s m
 
+  pub closed_by_each : {n : ℕ} → ((x : ℕ) → x < n → (y : ℕ) → y < n → Unequal rec P x y false) → Looked n rec P None
+  closed_by_each f = closed (λ x y hx hy. not_unequal (f x hx y hy))
+
   -- pair k of n × n terms is (k / n, k % n)
-  pub closed_by_all : (n : ℕ) → ((k : ℕ) → k < n * n → SameAddress rec P (k / n) (k % n) → Holds P (k / n) (pos 0) (k % n)) → Looked n rec P Look.Closed
+  pub closed_by_all : (n : ℕ) → ((k : ℕ) → k < n * n → SameAddress rec P (k / n) (k % n) → Holds P (k / n) (pos 0) (k % n)) → Looked n rec P None
   closed_by_all n f =
       closed
       (λ x y hx hy.
       rw (digits_div x hy, digits_mod x hy) at (f (x * n + y) (digits_lt hx hy)))
 
 pub alike_by :
-    {n : ℕ} {P : Placement} {reader x : ℕ} →
-    (0 < reader) × (reader ≤ n) →
-    (r : Bool) →
-    r ≡ holds P (comparison (reader - 1) (pos 0) x) →
-    Alike n P reader x r
-alike_by {P = P} {reader = reader} {x = x} h true e = alike h.0 h.1 (holds_true P (comparison (reader - 1) (pos 0) x) (sym e))
-alike_by h false e = not_told
+    {n : ℕ} {P : Placement} {reader : Reader} {r : TermNumber} {x : ℕ} →
+    reader ≡ Reader.One r →
+    r.0 < n →
+    (b : Bool) →
+    b ≡ holds P (comparison r.0 (pos 0) x) →
+    Alike n P reader x b
+alike_by {P = P} {r = r} {x = x} o h true e = alike o h (holds_true P (comparison r.0 (pos 0) x) (sym e))
+alike_by o h false e = not_told
 
 -- pair k of n × n terms
 pub record PairBelow (n k : ℕ) : Type 0 where

@@ -1,12 +1,12 @@
 -- Dereferences in the order of words that are made of their classes and addresses, and what the order shows.
-use Rattle.std.specs.Prelude.{ℕ, zero, suc, ◌+◌, ◌-◌, ◌*◌, ◌/◌, ◌%◌, ◌^◌, ◌<◌, ◌≤◌, ◌≡◌, refl, Bool, true, false, List, leb, ℤ, pos, get_or}
+use Rattle.std.specs.Prelude.{Some, None, Result, Ok, Err, IsErrAnd, ⊤, ℕ, zero, suc, ◌+◌, ◌-◌, ◌*◌, ◌/◌, ◌%◌, ◌^◌, ◌<◌, ◌≤◌, ◌≡◌, refl, Bool, true, false, List, leb, ℤ, pos, get_or}
 use Rattle.std.proofs.Common.{sym, ◌∙◌, ap, arith, of_z, leb-true, leb-false}
 use Rattle.std.specs.Int.{w64}
 use Rattle.rules.specs.Assignments.{Placement, Holds}
 use Rattle.types.specs.declared.TermNumber.{TermNumber}
 use Rattle.tables.specs.Records.{TermRecord, deref_kind}
-use Rattle.lastlook.specs.declared.Look.{Look}
-use Rattle.lastlook.specs.declared.Neighbours.{Neighbours}
+use Rattle.lastlook.specs.declared.Disorder.{Disorder}
+use Rattle.lastlook.specs.declared.Reader.{Reader}
 use Rattle.lastlook.specs.Addresses.{class_of, address_of, SameAddress, Unequal, Alike, alike, Looked, closed, unequal_pair, itself, turned, onward, swapped}
 
 -- one number for a class and an address: the lower half of the address spread over 32 bits, the class, and of the upper half 12 bits
@@ -25,10 +25,10 @@ pub record Follows (P : Placement) (a b : ℕ) : Type 0 where
   pub agrees : a / 512 ≡ b / 512 → Holds P (a % 512) (pos 0) (b % 512)
 
 -- what a test of two neighbours, or of all, finds
-pub data Tested (n : ℕ) (rec : ℕ → TermRecord) (P : Placement) (Right : Type 0) : Neighbours → Type 0 where
-  unequal_found : {x y : TermNumber} → x.0 < n → y.0 < n → Unequal rec P x.0 y.0 true → Tested n rec P Right (Neighbours.Pair x y)
-  right : Right → Tested n rec P Right Neighbours.Agree
-  wrong : Tested n rec P Right Neighbours.Unordered
+pub data Tested (n : ℕ) (rec : ℕ → TermRecord) (P : Placement) (Right : Type 0) : Result ⊤ Disorder → Type 0 where
+  unequal_found : {x y : TermNumber} → x.0 < n → y.0 < n → Unequal rec P x.0 y.0 true → Tested n rec P Right (Err (Disorder.Pair x y))
+  right : Right → Tested n rec P Right (Ok tt)
+  wrong : Tested n rec P Right (Err Disorder.Unordered)
 
 -- each of the first words follows the one before it
 pub record Ordered (P : Placement) (words : List ℕ) (count : ℕ) : Type 0 where
@@ -41,43 +41,46 @@ pub record Stands (words : List ℕ) (count w : ℕ) : Type 0 where
   pub is : get_or words place 0 ≡ w
 
 -- what is noted for the class that x reads
-abbrev pub reader_in : (ℕ → TermRecord) → Placement → List ℕ → ℕ → ℕ
-reader_in rec P readers x = get_or readers (class_of rec P x) 0
+abbrev pub reader_in : (ℕ → TermRecord) → Placement → List Reader → ℕ → Reader
+reader_in rec P readers x = get_or readers (class_of rec P x) Reader.None
 
 -- x has the label of the reader noted for its class, or the class is noted to have many and the word of x is among the first
-pub data Shown (n : ℕ) (rec : ℕ → TermRecord) (P : Placement) (readers words : List ℕ) (count x : ℕ) : Type 0 where
-  as_reader : 0 < reader_in rec P readers x → reader_in rec P readers x ≤ n → Holds P (reader_in rec P readers x - 1) (pos 0) x → Shown n rec P readers words count x
-  listed : reader_in rec P readers x ≡ 513 → Stands words count (word_of rec P x) → Shown n rec P readers words count x
+pub data Shown (n : ℕ) (rec : ℕ → TermRecord) (P : Placement) (readers : List Reader) (words : List ℕ) (count x : ℕ) : Type 0 where
+  as_reader : {r : TermNumber} → reader_in rec P readers x ≡ Reader.One r → r.0 < n → Holds P r.0 (pos 0) x → Shown n rec P readers words count x
+  listed : reader_in rec P readers x ≡ Reader.Many → Stands words count (word_of rec P x) → Shown n rec P readers words count x
 
 -- each of n terms that is a dereference is shown so
-abbrev pub AllShown : ℕ → (ℕ → TermRecord) → Placement → List ℕ → List ℕ → ℕ → Type 0
+abbrev pub AllShown : ℕ → (ℕ → TermRecord) → Placement → List Reader → List ℕ → ℕ → Type 0
 AllShown n rec P readers words count = (x : ℕ) → x < n → (rec x).kind ≡ deref_kind → Shown n rec P readers words count x
 
-pub data Standing (n : ℕ) (rec : ℕ → TermRecord) (P : Placement) (readers words : List ℕ) (count : ℕ) : Bool → Type 0 where
+pub data Standing (n : ℕ) (rec : ℕ → TermRecord) (P : Placement) (readers : List Reader) (words : List ℕ) (count : ℕ) : Bool → Type 0 where
   all_stand : AllShown n rec P readers words count → Standing n rec P readers words count true
   not_all : Standing n rec P readers words count false
 
 module _ {n : ℕ} {rec : ℕ → TermRecord} {P : Placement} {Right : Type 0} where
-  pub tested_right : Tested n rec P Right Neighbours.Agree → Right
+  pub tested_right : Tested n rec P Right (Ok tt) → Right
   tested_right (right r) = r
 
-  pub tested_pair : {x y : TermNumber} → Tested n rec P Right (Neighbours.Pair x y) → Looked n rec P (Look.Pair x y)
+  pub tested_pair : {x y : TermNumber} → Tested n rec P Right (Err (Disorder.Pair x y)) → Looked n rec P (Some (x, y))
   tested_pair (unequal_found hx hy u) = unequal_pair hx hy u
 
-  pub tested_as : {x y : TermNumber} (Other : Type 0) → Tested n rec P Right (Neighbours.Pair x y) → Tested n rec P Other (Neighbours.Pair x y)
+  pub tested_as : {d : Disorder} (Other : Type 0) → Tested n rec P Right (Err d) → Tested n rec P Other (Err d)
   tested_as Other (unequal_found hx hy u) = unequal_found hx hy u
+  tested_as Other wrong = wrong
 
-pub standing_all : {n : ℕ} {rec : ℕ → TermRecord} {P : Placement} {readers words : List ℕ} {count : ℕ} → Standing n rec P readers words count true → AllShown n rec P readers words count
+  pub tested_err : {r : Result ⊤ Disorder} {d : Disorder} (Other : Type 0) → Tested n rec P Right (Err d) → IsErrAnd r (λ e. e ≡ d) → Tested n rec P Other r
+  tested_err {r = Err e} Other t f = rw f (tested_as Other t)
+  tested_err {r = Ok u} Other t f = absurd f
+
+pub standing_all : {n : ℕ} {rec : ℕ → TermRecord} {P : Placement} {readers : List Reader} {words : List ℕ} {count : ℕ} → Standing n rec P readers words count true → AllShown n rec P readers words count
 standing_all (all_stand f) = f
 
 pub alike_shown :
-    {n m : ℕ} {rec : ℕ → TermRecord} {P : Placement} {readers words : List ℕ} {count x r : ℕ} →
-    m ≡ n →
+    {n : ℕ} {rec : ℕ → TermRecord} {P : Placement} {readers : List Reader} {words : List ℕ} {count x : ℕ} {r : Reader} →
     r ≡ reader_in rec P readers x →
-    Alike m P r x true →
+    Alike n P r x true →
     Shown n rec P readers words count x
-alike_shown {P = P} {x = x} l e (alike a b h) =
-    as_reader (omega (arith, a, e)) (omega (arith, b, e, l)) (rw e at h)
+alike_shown e (alike o b h) = as_reader (sym e ∙ o) b h
 
 module _ {P : Placement} where
   pub follows_itself : (a : ℕ) → Follows P a a
@@ -101,7 +104,7 @@ module _ {P : Placement} where
       go f true e = f (leb-true i j e)
       go f false e = let m : i ≡ suc j = omega (arith, leb-false i j e) in rw m (follows_itself (get_or words (suc j) 0))
 
-module _ {n : ℕ} {rec : ℕ → TermRecord} {P : Placement} (readers words : List ℕ) (count : ℕ) (few : n ≤ 512) (O : Ordered P words count) (A : AllShown n rec P readers words count) where
+module _ {n : ℕ} {rec : ℕ → TermRecord} {P : Placement} (readers : List Reader) (words : List ℕ) (count : ℕ) (few : n ≤ 512) (O : Ordered P words count) (A : AllShown n rec P readers words count) where
   -- x no later than y in the order
   agree_forward :
       (x y : ℕ) →
@@ -143,14 +146,14 @@ module _ {n : ℕ} {rec : ℕ → TermRecord} {P : Placement} (readers words : L
       Shown n rec P readers words count x →
       Shown n rec P readers words count y →
       Holds P x (pos 0) y
-  agree_shown x y hx hy m e (as_reader a b h) (as_reader c d k) =
-      let j : Holds P (reader_in rec P readers x - 1) (pos 0) y = rw e k in
-      onward P (turned P h) j
-  agree_shown x y hx hy m e (as_reader a b h) (listed f t) = absurd (omega (arith, b, few, e, f))
-  agree_shown x y hx hy m e (listed f s) (as_reader c d k) = absurd (omega (arith, d, few, e, f))
+  agree_shown x y hx hy m e (as_reader {r} a b h) (as_reader {r = q} c d k) =
+      let f : r ≡ q = cc in
+      onward P (turned P h) (rw f k)
+  agree_shown x y hx hy m e (as_reader a b h) (listed f t) = cc
+  agree_shown x y hx hy m e (listed f s) (as_reader c d k) = cc
   agree_shown x y hx hy m e (listed f s) (listed g t) = agree_listed x y hx hy m s t (leb s.place t.place) refl
 
   -- an order that holds every dereference that is not like the reader of its class shows that there is no pair
-  pub closed_by_order : Looked n rec P Look.Closed
+  pub closed_by_order : Looked n rec P None
   closed_by_order = closed (λ x y hx hy m.
-      agree_shown x y hx hy m (ap (λ (k : ℕ). get_or readers k 0) m.block) (A x hx m.deref_x) (A y hy m.deref_y))
+      agree_shown x y hx hy m (ap (λ (k : ℕ). get_or readers k Reader.None) m.block) (A x hx m.deref_x) (A y hy m.deref_y))

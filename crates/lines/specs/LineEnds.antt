@@ -1,6 +1,7 @@
 -- Where the line that starts at a place of a text ends, and the lines from there on.
 use Prim.Native.Nat.{ℕ, suc, ◌+◌, ◌-◌, ◌<◌, ◌≤◌}
-use Rattle.std.specs.Prelude.{◌≡◌, Bool, List, [], ◌∷◌, eqb, take, get_or}
+use Rattle.std.specs.Prelude.{◌≡◌, Bool, List, [], ◌∷◌, eqb, take, get_or, ◌==◌, nat_lt, cond, Some, None}
+use Rattle.std.specs.List.{position, position_or_len}
 use Rattle.std.proofs.Math.Path.{refl, ap, sym}
 use Rattle.std.proofs.Common.{◌∙◌, add-one, drop_of_length-le}
 use Rattle.std.proofs.Math.Bool.{true, false}
@@ -9,6 +10,7 @@ use borrow.Author.Tests.{eq-eqb, ne_eqb, lt-ltb, le-ltb, ltb-true, ltb-false}
 use Rattle.std.proofs.Math.Dec.{ltb}
 use Rattle.std.proofs.Math.ListN.{length, drop, length-drop}
 use Rattle.std.proofs.Math.Seq.{drop-cons, drop-drop}
+use Rattle.std.proofs.lemmas.Option.{none-some}
 use Rattle.lists.specs.Search.{choose}
 use Rattle.text.specs.Lines.{Line, lf, before, lines_of}
 
@@ -77,6 +79,29 @@ line_size_within (c ∷ text) = go (eqb c lf) refl (line_size_within text)
     go true e i = rw (line_size_lf c text e) (omega arith)
     go false e i = rw (line_size_other c text e) (omega arith)
 
+-- where the first LF stands
+line_size_first : (text : List ℕ) → line_size text ≡ position_or_len (λ c. c == lf) text
+line_size_first [] = line_size_nil
+line_size_first (c ∷ text) = go (eqb c lf) refl (line_size_first text)
+  where
+    go : (b : Bool) → eqb c lf ≡ b → line_size text ≡ position_or_len (λ c. c == lf) text → line_size (c ∷ text) ≡ position_or_len (λ c. c == lf) (c ∷ text)
+    go true e i = rw (line_size_lf c text e, e)
+    go false e i = rw (line_size_other c text e, e) (omega arith)
+
+pub line_size_some : (text : List ℕ) (k : ℕ) → Some k ≡ position (λ c. c == lf) text → k ≡ line_size text
+line_size_some text k = go (nat_lt (position_or_len (λ c. c == lf) text) (length text))
+  where
+    go : (b : Bool) → Some k ≡ cond b (Some (position_or_len (λ c. c == lf) text)) None → k ≡ line_size text
+    go true e = let h : k ≡ position_or_len (λ c. c == lf) text = cc in h ∙ sym (line_size_first text)
+    go false e = absurd (none-some k (sym e))
+
+pub line_size_none : (text : List ℕ) → None ≡ position (λ c. c == lf) text → length text ≡ line_size text
+line_size_none text = go (nat_lt (position_or_len (λ c. c == lf) text) (length text)) refl
+  where
+    go : (b : Bool) → nat_lt (position_or_len (λ c. c == lf) text) (length text) ≡ b → None ≡ cond b (Some (position_or_len (λ c. c == lf) text)) None → length text ≡ line_size text
+    go true t e = absurd (none-some _ e)
+    go false t e = let n = ltb-false _ _ t in omega (arith, line_size_first text, line_size_within text)
+
 -- the line from a place on to its end, as a part of the text
 abbrev pub line_of : List ℕ → ℕ → ℕ → Line
 line_of text at end = record { characters = take (end - at) (drop at text); ended = ltb end (length text) }
@@ -128,3 +153,11 @@ module _ (text : List ℕ) (at : ℕ) where
   pub end_last : length text ≤ at → end_of_line text at ≡ at
   unfolding end_of_line
   end_last h = rw (drop_of_length-le text h, line_size_nil) (omega arith)
+
+  pub end_found : (k : ℕ) → Some k ≡ position (λ c. c == lf) (drop at text) → at + k ≡ end_of_line text at
+  unfolding end_of_line
+  end_found k e = ap (λ n. at + n) (line_size_some (drop at text) k e)
+
+  pub end_none : at ≤ length text → None ≡ position (λ c. c == lf) (drop at text) → length text ≡ end_of_line text at
+  unfolding end_of_line
+  end_none h e = omega (arith, line_size_none (drop at text) e, length-drop at text)

@@ -6,11 +6,10 @@ pub mod line;
 
 use types::{PropositionRecord, QuestionRecord, TermRecord};
 
-// What one line says.
+// What a well-formed line says.
 #[derive(Clone, Copy)]
 pub enum Frame {
     Term(TermRecord),
     Proposition(PropositionRecord),
     Question(QuestionRecord),
-    Malformed,
 }

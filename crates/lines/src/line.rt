@@ -1,5 +1,6 @@
 // The frame that a line holds, and where a line ends.
-ghost use Rattle.std.specs.Prelude.{◌≡◌, ◌+◌, ◌≤◌, length};
+ghost use Rattle.std.specs.Prelude.{◌≡◌, ◌+◌, ◌≤◌, ◌==◌, length};
+ghost use Rattle.std.specs.List.{position};
 ghost use Rattle.std.proofs.Math.Option.{some};
 ghost use Rattle.text.specs.Lines.{bytes_of};
 ghost use Rattle.text.specs.Frames.{field, field_of_offset, atom, dereference, relation, blocks, asked, frame_of_bytes};
@@ -19,7 +20,7 @@ fn word(fields: &[u8], at: usize) -> u64
     requires { at + 2 ≤ length fields.now }
     ensures { result ≡ field at 2 fields.now }
 {
-    number(&fields[at..at + 2]) as u64
+    u64::from(number(&fields[at..at + 2]))
 }
 
 // The offset in bytes 2 to 5.
@@ -30,89 +31,81 @@ fn offset_field(fields: &[u8]) -> i64
     offset(number(&fields[2..6]))
 }
 
-fn atom_frame(kind: u64, fields: &[u8]) -> Frame
+fn atom_frame(kind: u64, fields: &[u8]) -> Option<Frame>
     ensures { meaning result ≡ framed (atom kind) fields.now }
 {
     if fields.len() != 2 {
-        return Frame::Malformed;
+        return None;
     }
-    Frame::Term(TermRecord {
+    Some(Frame::Term(TermRecord {
         kind,
         number: word(fields, 0),
         offset: 0,
-    })
+    }))
 }
 
-fn dereference_frame(fields: &[u8]) -> Frame
+fn dereference_frame(fields: &[u8]) -> Option<Frame>
     ensures { meaning result ≡ framed dereference fields.now }
 {
     if fields.len() != 6 {
-        return Frame::Malformed;
+        return None;
     }
-    Frame::Term(TermRecord {
+    Some(Frame::Term(TermRecord {
         kind: DEREF,
         number: word(fields, 0),
         offset: offset_field(fields),
-    })
+    }))
 }
 
-fn relation_frame(kind: u64, fields: &[u8]) -> Frame
+fn relation_frame(kind: u64, fields: &[u8]) -> Option<Frame>
     ensures { meaning result ≡ framed (relation kind) fields.now }
 {
     if fields.len() != 8 {
-        return Frame::Malformed;
+        return None;
     }
-    Frame::Proposition(PropositionRecord {
+    Some(Frame::Proposition(PropositionRecord {
         kind,
         left: word(fields, 0),
         offset: offset_field(fields),
         right: word(fields, 6),
-    })
+    }))
 }
 
-fn blocks_frame(fields: &[u8]) -> Frame
+fn blocks_frame(fields: &[u8]) -> Option<Frame>
     ensures { meaning result ≡ framed blocks fields.now }
 {
     if fields.len() != 4 {
-        return Frame::Malformed;
+        return None;
     }
-    Frame::Proposition(PropositionRecord {
+    Some(Frame::Proposition(PropositionRecord {
         kind: BLOCK_DISEQUALITY,
         left: word(fields, 0),
         offset: 0,
         right: word(fields, 2),
-    })
+    }))
 }
 
-fn question_frame(fields: &[u8]) -> Frame
+fn question_frame(fields: &[u8]) -> Option<Frame>
     ensures { meaning result ≡ framed asked fields.now }
 {
     if fields.len() != 8 {
-        return Frame::Malformed;
+        return None;
     }
-    Frame::Question(QuestionRecord {
+    Some(Frame::Question(QuestionRecord {
         left: word(fields, 0),
         offset: offset_field(fields),
         right: word(fields, 6),
-    })
-}
-
-fn wide(b: u8) -> u64
-    ensures { result ≡ b }
-{
-    b as u64
+    }))
 }
 
 // The frame that bytes spell: a kind, and its fields.
-fn frame_of(bytes: &[u8]) -> Frame
+fn frame_of(bytes: &[u8]) -> Option<Frame>
     ensures { meaning result ≡ frame_of_bytes (some bytes.now) }
 {
-    if bytes.len() == 0 {
-        return Frame::Malformed;
-    }
-    let kind = wide(bytes[0]);
-    let fields = &bytes[1..];
-    match kind {
+    let [kind, fields @ ..] = bytes else {
+        return None;
+    };
+    match u64::from(*kind) {
         VARIABLE => atom_frame(VARIABLE, fields),
         AUXILIARY => atom_frame(AUXILIARY, fields),
         DEREF => dereference_frame(fields),
@@ -120,7 +113,7 @@ fn frame_of(bytes: &[u8]) -> Frame
         DISEQUALITY => relation_frame(DISEQUALITY, fields),
         BLOCK_DISEQUALITY => blocks_frame(fields),
         QUESTION => question_frame(fields),
-        _ => Frame::Malformed,
+        _ => None,
     }
 }
 
@@ -128,33 +121,33 @@ fn frame_of(bytes: &[u8]) -> Frame
 const LONGEST: usize = 18;
 
 // The frame of a line's characters, without the LF.
-pub fn judge_line(line: &[u8]) -> Frame
+pub fn judge_line(line: &[u8]) -> Option<Frame>
     ensures { meaning result ≡ frame_of_bytes (bytes_of line.now) }
 {
     if line.len() > LONGEST {
-        return Frame::Malformed;
+        return None;
     }
     let mut bytes = [0u8; 9];
-    if !decode(line, &mut bytes) {
-        return Frame::Malformed;
-    }
-    let size = line.len() / 2;
+    let size = decode(line, &mut bytes)?;
     frame_of(&bytes[..size])
 }
 
 const LF: u8 = 10;
+
+// The place of the first LF.
+fn first_lf(text: &[u8]) -> Option<usize>
+    ensures { result ≡ position (λ c. c == LF) text.now }
+{
+    text.iter().position(|c| *c == LF)
+}
 
 // Where the line that starts at `at` ends: at its LF, or at the text's end.
 pub fn line_end(text: &[u8], at: usize) -> usize
     requires { at ≤ length text.now }
     ensures { result ≡ end_of_line text.now at }
 {
-    let mut end = at;
-    while end < text.len() {
-        if text[end] == LF {
-            return end;
-        }
-        end += 1;
+    match first_lf(&text[at..]) {
+        Some(size) => at + size,
+        None => text.len(),
     }
-    end
 }

@@ -1,6 +1,5 @@
 // The bits of pairs of terms in a byte table: bit i * n + j for the pair (i, j).
-ghost use Rattle.std.specs.Prelude.{◌≡◌, ◌+◌, ◌*◌, ◌/◌, ◌<◌, ◌≤◌, ◌&&◌};
-ghost use Rattle.tables.specs.Limits.{most};
+ghost use Rattle.std.specs.Prelude.{◌≡◌, ◌+◌, ◌*◌, ◌&&◌};
 ghost use Rattle.pairbits.specs.Bits.{is_set};
 ghost use Rattle.marking.specs.Marks.{Adds, Both, Inside, One, Room};
 

@@ -10,15 +10,24 @@ ghost use Rattle.marking.specs.Marks.{Inside, Room, zeros};
 ghost use Rattle.marking.specs.Far.{FarMask, FarOthers, FarSelves, is_other, key_of_other, PutIf, Selves, Split};
 
 use crate::bits::{pair_number, test_pair};
-use points::places::{index, linked};
+use points::places::linked;
 use types::TermNumber;
 use words::{common, put};
+
+// The homes that are their own classes, as a mask, and the other homes, by chains: key 1 has those of the other classes.
+#[derive(Clone, Copy)]
+pub(crate) struct Others<'a> {
+    pub selves: &'a [u64],
+    pub keys: &'a [u32],
+    pub first: &'a [u16],
+    pub next: &'a [u16],
+}
 
 // 1 if t is a home that does not have the number of its class, else 0.
 fn other_key(n: usize, t: usize, class: u32) -> u32
     ensures { result ≡ bit_value (is_other n class t) }
 {
-    if (index(class) < n) & (index(class) != t) {
+    if ((class as usize) < n) & (class as usize != t) {
         1
     } else {
         0
@@ -41,7 +50,7 @@ pub(crate) fn fill_selves(n: usize, points: &[u32], selves: &mut [u64])
     ensures { Selves n n points.now selves.new }
 {
     for t in 0..n {
-        if index(points[t]) != t {
+        if points[t] as usize != t {
             continue;
         }
         put(selves, t);
@@ -65,30 +74,20 @@ fn put_far(n: usize, a: usize, t: TermNumber, points: &[u32], apart: &[u8], far:
     ensures { PutIf (is_set apart.now (a * n + class points.now t.0)) far.old t.0 far.new }
 {
     let k = t.0;
-    if test_pair(n, TermNumber(a), TermNumber(index(points[k])), apart) {
+    if test_pair(n, TermNumber(a), TermNumber(points[k] as usize), apart) {
         put(far, k);
     }
 }
 
 // Puts the other homes whose classes are apart from class a into a mask.
-fn far_others(
-    n: usize,
-    a: usize,
-    selves: &[u64],
-    others: &[u32],
-    other_first: &[u16],
-    other_next: &[u16],
-    points: &[u32],
-    apart: &[u8],
-    far: &mut [u64],
-)
-    requires { Split n points.now selves.now others.now other_first.now other_next.now × (Inside n a a × ((n ≤ length points.now) × (Room n apart.now × (length far.old ≡ 8)))) }
+fn far_others(n: usize, a: usize, others: &Others, points: &[u32], apart: &[u8], far: &mut [u64])
+    requires { let O = others.now in Split n points.now O.selves.now O.keys.now O.first.now O.next.now × (Inside n a a × ((n ≤ length points.now) × (Room n apart.now × (length far.old ≡ 8)))) }
     ensures { FarOthers n a apart.now points.now n far.old far.new }
 {
-    let mut t = linked(other_first, 1);
+    let mut t = linked(others.first, 1);
     while t < n {
         put_far(n, a, TermNumber(t), points, apart, far);
-        t = linked(other_next, t);
+        t = linked(others.next, t);
     }
 }
 
@@ -96,27 +95,14 @@ fn far_others(
 pub(crate) fn far_homes(
     n: usize,
     a: usize,
-    selves: &[u64],
-    others: &[u32],
-    other_first: &[u16],
-    other_next: &[u16],
+    others: &Others,
     points: &[u32],
     apart: &[u8],
     far: &mut [u64],
 )
-    requires { Split n points.now selves.now others.now other_first.now other_next.now × (Inside n a a × ((n ≤ length points.now) × (Room n apart.now × (length far.old ≡ 8)))) }
+    requires { let O = others.now in Split n points.now O.selves.now O.keys.now O.first.now O.next.now × (Inside n a a × ((n ≤ length points.now) × (Room n apart.now × (length far.old ≡ 8)))) }
     ensures { FarMask n apart.now points.now a far.new }
 {
-    far_selves(n, a, selves, apart, far);
-    far_others(
-        n,
-        a,
-        selves,
-        others,
-        other_first,
-        other_next,
-        points,
-        apart,
-        far,
-    );
+    far_selves(n, a, others.selves, apart, far);
+    far_others(n, a, others, points, apart, far);
 }

@@ -2,7 +2,7 @@
 ghost use Rattle.std.specs.Prelude.{◌≡◌, ◌+◌, ◌*◌, ◌<◌, ◌≤◌, true, false, length, slice_index};
 ghost use Rattle.tables.specs.Limits.{most};
 ghost use Rattle.pairbits.specs.Bits.{is_set};
-ghost use Rattle.points.specs.Places.{AtEither, class_slots, Column, SlotChains, top};
+ghost use Rattle.points.specs.Places.{AtEither, class_slots, top};
 ghost use Rattle.distances.specs.Distances.{Indexed, comes_before};
 ghost use Rattle.marking.specs.Marks.{Adds, Room};
 ghost use Rattle.marking.specs.Pairs.{Candidate, Span};
@@ -10,8 +10,10 @@ ghost use Rattle.marking.specs.Pairs.{Candidate, Span};
 use crate::between::mark_with;
 use crate::bits::test_pair;
 use crate::notes::Notes;
+use distances::index::DistanceIndex;
 use distances::{bucket, candidate, is_before};
-use points::places::index;
+use points::chained::ChainedPlaces;
+use points::places::Place;
 use types::TermNumber;
 
 // Whether the pairs of the classes a and b are in the index, by points of a.
@@ -22,7 +24,7 @@ pub(crate) fn is_indexed(n: usize, a: u32, b: u32, levels: &[u16], apart: &[u8])
     if !is_before(a, b, levels) {
         return false;
     }
-    !test_pair(n, TermNumber(index(a)), TermNumber(index(b)), apart)
+    !test_pair(n, TermNumber(a as usize), TermNumber(b as usize), apart)
 }
 
 fn wide(start: u32) -> usize
@@ -43,111 +45,73 @@ fn start_of(k: usize, starts: &[u32]) -> usize
 
 // The pairs of the candidate that entry c stands for, if it is of class a, with terms of class b.
 fn mark_candidate(
-    n: usize,
+    places: &ChainedPlaces,
     c: usize,
-    a: u32,
-    p: u64,
-    b: u32,
-    q: u64,
-    points: &[u32],
-    heights: &[u64],
-    slot_first: &[u16],
-    slot_next: &[u16],
-    from: &[u16],
-    order: &[u16],
-    entries: &[u8],
+    x: Place,
+    y: Place,
+    by_distance: &DistanceIndex,
     pairs: &mut [u8],
     notes: &mut Notes,
 )
-    requires column { Column n points.now heights.now × (SlotChains n points.now heights.now slot_first.now slot_next.now × (length from.now ≡ class_slots)) }
-    requires a_lt_n { (a < n) × ((b < n) × ((q < top) × Room n pairs.old)) }
-    ensures { Adds n (Candidate n points.now heights.now from.now order.now entries.now a p b q c) pairs.old pairs.new }
+    requires column { length by_distance.now.from.now ≡ class_slots }
+    requires a_lt_n { let P = places.now in (x.class < P.n) × ((y.class < P.n) × ((y.height < top) × Room P.n pairs.old)) }
+    ensures { let I = by_distance.now in let P = places.now in Adds P.n (Candidate P.n P.classes.now P.heights.now I.from.now I.order.now I.entries.now x.class x.height y.class y.height c) pairs.old pairs.new }
 {
-    if entries.len() <= c {
+    if by_distance.entries.len() <= c {
         return;
     }
-    let i = candidate(a, c, from, order, entries);
-    if n <= i {
-        return;
-    }
-    if points[i] != a {
-        return;
-    }
-    mark_with(
-        n,
-        TermNumber(i),
-        p,
-        b,
-        q,
-        points,
-        heights,
-        slot_first,
-        slot_next,
-        pairs,
-        notes,
+    let i = candidate(
+        x.class,
+        c,
+        by_distance.from,
+        by_distance.order,
+        by_distance.entries,
     );
+    if places.n <= i {
+        return;
+    }
+    if places.classes[i] != x.class {
+        return;
+    }
+    mark_with(places, TermNumber(i), x.height, y, pairs, notes);
 }
 
 // The same for the entries from `start` to `end`.
 fn mark_candidates(
-    n: usize,
+    places: &ChainedPlaces,
     start: usize,
     end: usize,
-    a: u32,
-    p: u64,
-    b: u32,
-    q: u64,
-    points: &[u32],
-    heights: &[u64],
-    slot_first: &[u16],
-    slot_next: &[u16],
-    from: &[u16],
-    order: &[u16],
-    entries: &[u8],
+    x: Place,
+    y: Place,
+    by_distance: &DistanceIndex,
     pairs: &mut [u8],
     notes: &mut Notes,
 )
-    requires column { Column n points.now heights.now × (SlotChains n points.now heights.now slot_first.now slot_next.now × (length from.now ≡ class_slots)) }
-    requires a_lt_n { (a < n) × ((b < n) × ((q < top) × Room n pairs.old)) }
-    ensures { Adds n (Span start end (Candidate n points.now heights.now from.now order.now entries.now a p b q)) pairs.old pairs.new }
+    requires column { length by_distance.now.from.now ≡ class_slots }
+    requires a_lt_n { let P = places.now in (x.class < P.n) × ((y.class < P.n) × ((y.height < top) × Room P.n pairs.old)) }
+    ensures { let I = by_distance.now in let P = places.now in Adds P.n (Span start end (Candidate P.n P.classes.now P.heights.now I.from.now I.order.now I.entries.now x.class x.height y.class y.height)) pairs.old pairs.new }
 {
     for c in start..end {
-        mark_candidate(
-            n, c, a, p, b, q, points, heights, slot_first, slot_next, from, order, entries, pairs,
-            notes,
-        );
+        mark_candidate(places, c, x, y, by_distance, pairs, notes);
     }
 }
 
 // The pairs of terms of the classes a and b that are as far apart as p and q, whose pairs are in the index by points of a.
 pub(crate) fn mark_indexed(
-    n: usize,
-    a: u32,
-    p: u64,
-    b: u32,
-    q: u64,
-    points: &[u32],
-    heights: &[u64],
-    slot_first: &[u16],
-    slot_next: &[u16],
+    places: &ChainedPlaces,
+    x: Place,
+    y: Place,
     apart: &[u8],
-    levels: &[u16],
-    from: &[u16],
-    order: &[u16],
-    starts: &[u32],
-    entries: &[u8],
+    by_distance: &DistanceIndex,
     pairs: &mut [u8],
     notes: &mut Notes,
 )
-    requires column { Column n points.now heights.now × (SlotChains n points.now heights.now slot_first.now slot_next.now × Indexed n points.now heights.now apart.now levels.now from.now order.now starts.now entries.now) }
-    requires a_lt_n { (a < n) × ((b < n) × ((p < top) × ((q < top) × ((comes_before levels.now a b ≡ true) × ((is_set apart.now (a * n + b) ≡ false) × Room n pairs.old))))) }
-    ensures { Adds n (AtEither points.now heights.now a p b q) pairs.old pairs.new }
+    requires column { let I = by_distance.now in let P = places.now in Indexed P.n P.classes.now P.heights.now apart.now I.levels.now I.from.now I.order.now I.starts.now I.entries.now }
+    requires a_lt_n { let I = by_distance.now in let P = places.now in (x.class < P.n) × ((y.class < P.n) × ((x.height < top) × ((y.height < top) × ((comes_before I.levels.now x.class y.class ≡ true) × ((is_set apart.now (x.class * P.n + y.class) ≡ false) × Room P.n pairs.old))))) }
+    ensures { let P = places.now in Adds P.n (AtEither P.classes.now P.heights.now x.class x.height y.class y.height) pairs.old pairs.new }
 {
-    let k = bucket(a, p, b, q);
-    let start = start_of(k, starts);
-    let end = start_of(k + 1, starts);
-    mark_candidates(
-        n, start, end, a, p, b, q, points, heights, slot_first, slot_next, from, order, entries,
-        pairs, notes,
-    );
+    let k = bucket(x, y);
+    let start = start_of(k, by_distance.starts);
+    let end = start_of(k + 1, by_distance.starts);
+    mark_candidates(places, start, end, x, y, by_distance, pairs, notes);
 }

@@ -2,51 +2,14 @@
 // `settling` and `differences`.
 use types::{MOST, TermNumber};
 
-// From 0, how many points each class has. From READERS, for each home 1 if a dereference has its value there. At STEPS, the steps taken.
-// At STACK, the height of a stack, then what is on it: pairs of homes whose bits were set. What does not fit is dropped. From FIRED, for
-// buckets of distances the last pair of dereferences that was looked at.
-pub type Notes = [u32; NOTES];
+// The classes that points are counted of.
+const CLASSES: usize = 1024;
 
-// How many notes there are.
-pub const NOTES: usize = FIRED + FACTS;
+// The pairs that are kept to be looked at.
+const STACK: usize = 510;
 
-const CELLS: usize = 2048;
-
-const READERS: usize = 1024;
-
-const STEPS: usize = 1536;
-
-const STACK: usize = 1537;
-
-const FIRED: usize = CELLS;
-
+// The buckets of distances.
 const FACTS: usize = 2048;
-
-fn wide(x: u32) -> usize {
-    x as usize
-}
-
-fn narrow(x: usize) -> u32 {
-    (x % 0x1_0000_0000) as u32
-}
-
-// Adds to a note.
-fn raise(k: usize, more: u32, notes: &mut Notes) {
-    let at = k % CELLS;
-    notes[at] = std::num::wrapping_add_u32(notes[at], more);
-}
-
-// Counts the points of each class.
-pub fn count_points(points: &[u32], notes: &mut Notes) {
-    for t in 0..points.len() {
-        raise(wide(points[t]) % READERS, 1, notes);
-    }
-}
-
-// How many points a class has.
-pub(crate) fn size(class: u32, notes: &Notes) -> u32 {
-    notes[wide(class) % READERS]
-}
 
 // A class with fewer points has few.
 const FEW: u32 = 5;
@@ -54,95 +17,117 @@ const FEW: u32 = 5;
 // A class with more points has many.
 const MANY: u32 = 160;
 
-// Whether two classes or more have many points.
-pub fn are_many(notes: &Notes) -> bool {
-    let mut count = 0usize;
-    for c in 0..MOST {
-        if MANY < notes[c] {
-            count = std::num::wrapping_add_usize(count, 1);
-        }
-    }
-    2 <= count
-}
-
-// Whether one of two classes has few points.
-pub fn are_few(a: u32, b: u32, notes: &Notes) -> bool {
-    (size(a, notes) < FEW) | (size(b, notes) < FEW)
-}
-
-// Notes that a dereference has its value at home h.
-pub fn note_reader(h: usize, notes: &mut Notes) {
-    notes[READERS + h % MOST] = 1;
-}
-
-fn has_reader(h: TermNumber, notes: &Notes) -> bool {
-    notes[READERS + h.0 % MOST] == 1
-}
-
-// Notes that steps were taken. A step that sets a pair does not count (`note_pair`): an index would not save it.
-pub(crate) fn add_steps(more: u32, notes: &mut Notes) {
-    raise(STEPS, more, notes);
-}
-
-// No steps so far.
-pub fn forget_steps(notes: &mut Notes) {
-    notes[STEPS] = 0;
+#[derive(Drop)]
+pub struct Notes {
+    // How many points each class has.
+    points: [u32; CLASSES],
+    // Whether a dereference has its value at a home.
+    read: [bool; MOST],
+    // The steps taken, less those taken back.
+    steps: u32,
+    // Pairs of homes whose bits were set, and how many they are. What does not fit is dropped.
+    stack: [u32; STACK],
+    height: usize,
+    // For each bucket of distances the last pair of dereferences that was looked at.
+    fired: [u32; FACTS],
 }
 
 // About how many steps take half as long as building an index of n points.
 pub fn first_limit(n: usize) -> u32 {
-    let few = n % READERS;
-    narrow(few * few / 8)
+    let few = n % 1024;
+    (few * few / 8) as u32
 }
 
-// Whether more steps were taken than a limit. Where more were taken back than taken, the count is above 2^31.
-pub fn is_over(limit: u32, notes: &Notes) -> bool {
-    (limit < notes[STEPS]) & (notes[STEPS] < 0x8000_0000)
+// A pair of numbers of terms as one number.
+fn paired(x: TermNumber, y: TermNumber) -> u32 {
+    (x.0 % MOST * MOST + y.0 % MOST) as u32
 }
 
-fn push(pair: usize, notes: &mut Notes) {
-    let top = STACK + wide(notes[STACK]) % CELLS + 1;
-    if top < CELLS {
-        notes[top] = narrow(pair);
-        raise(STACK, 1, notes);
-    }
-}
+impl Notes {
+    pub const EMPTY: Self = Notes {
+        points: [0; CLASSES],
+        read: [false; MOST],
+        steps: 0,
+        stack: [0; STACK],
+        height: 0,
+        fired: [0; FACTS],
+    };
 
-// Notes a pair of homes whose bits were set just now, if both have readers, and takes back one step.
-pub(crate) fn note_pair(fresh: bool, i: TermNumber, j: TermNumber, notes: &mut Notes) {
-    if !fresh {
-        return;
+    // Counts the points of each class.
+    pub fn count_points(&mut self, points: &[u32]) {
+        for class in points {
+            let k = *class as usize % CLASSES;
+            self.points[k] = self.points[k].wrapping_add(1);
+        }
     }
-    raise(STEPS, 0xFFFF_FFFF, notes);
-    if !has_reader(i, notes) {
-        return;
-    }
-    if !has_reader(j, notes) {
-        return;
-    }
-    push(i.0 % MOST * MOST + j.0 % MOST, notes);
-}
 
-// The pair on top, which is taken off; 0 where there is none.
-pub fn pop(notes: &mut Notes) -> usize {
-    let high = wide(notes[STACK]) % CELLS;
-    let top = STACK + high;
-    if high == 0 {
-        return 0;
+    // How many points a class has.
+    pub(crate) fn size(&self, class: u32) -> u32 {
+        self.points[class as usize % CLASSES]
     }
-    if CELLS <= top {
-        return 0;
+
+    // Whether two classes or more have many points.
+    pub fn are_many(&self) -> bool {
+        2 <= self.points.iter().filter(|points| MANY < **points).count()
     }
-    notes[STACK] = narrow(high - 1);
-    wide(notes[top])
-}
 
-// Notes that x and y are looked at.
-pub fn note_fired(bucket: usize, x: TermNumber, y: TermNumber, notes: &mut Notes) {
-    notes[FIRED + bucket % FACTS] = narrow(x.0 % MOST * MOST + y.0 % MOST);
-}
+    // Whether one of two classes has few points.
+    pub fn are_few(&self, a: u32, b: u32) -> bool {
+        self.size(a) < FEW || self.size(b) < FEW
+    }
 
-// The pair that was noted last for a bucket; 0 for none.
-pub fn last_fired(bucket: usize, notes: &Notes) -> usize {
-    wide(notes[FIRED + bucket % FACTS])
+    // Notes that a dereference has its value at home h.
+    pub fn note_reader(&mut self, h: usize) {
+        self.read[h % MOST] = true;
+    }
+
+    // Notes that steps were taken. A step that sets a pair does not count (`note_pair`): an index would not save it.
+    pub(crate) fn add_steps(&mut self, more: u32) {
+        self.steps = self.steps.wrapping_add(more);
+    }
+
+    // No steps so far.
+    pub fn forget_steps(&mut self) {
+        self.steps = 0;
+    }
+
+    // Whether more steps were taken than a limit. Where more were taken back than taken, the count is above 2^31.
+    pub fn is_over(&self, limit: u32) -> bool {
+        limit < self.steps && self.steps < 0x8000_0000
+    }
+
+    fn push(&mut self, pair: u32) {
+        if self.height < STACK {
+            self.stack[self.height] = pair;
+            self.height += 1;
+        }
+    }
+
+    // Notes a pair of homes whose bits were set just now, if both have readers, and takes back one step.
+    pub(crate) fn note_pair(&mut self, fresh: bool, i: TermNumber, j: TermNumber) {
+        if !fresh {
+            return;
+        }
+        self.steps = self.steps.wrapping_sub(1);
+        if self.read[i.0 % MOST] && self.read[j.0 % MOST] {
+            self.push(paired(i, j));
+        }
+    }
+
+    // The pair on top, which is taken off.
+    pub fn pop(&mut self) -> Option<usize> {
+        let top = self.height.checked_sub(1)?;
+        self.height = top;
+        Some(self.stack[top % STACK] as usize)
+    }
+
+    // Notes that x and y are looked at.
+    pub fn note_fired(&mut self, bucket: usize, x: TermNumber, y: TermNumber) {
+        self.fired[bucket % FACTS] = paired(x, y);
+    }
+
+    // The pair that was noted last for a bucket; that of term 0 with itself, which gives nothing, where there is none.
+    pub fn last_fired(&self, bucket: usize) -> usize {
+        self.fired[bucket % FACTS] as usize
+    }
 }

@@ -1,50 +1,44 @@
 // The pairs of two classes that have one point each, as most classes have.
 ghost use Rattle.std.specs.Prelude.{◌<◌};
-ghost use Rattle.buckets.specs.Buckets.{Chains};
-ghost use Rattle.points.specs.Places.{class_slots, Column, top};
+ghost use Rattle.points.specs.Places.{top};
 ghost use Rattle.marking.specs.Marks.{Room};
 ghost use Rattle.marking.specs.Single.{Single};
 
 use crate::bits::mark_both;
-use crate::notes::{Notes, note_pair};
-use points::places::{index, linked};
+use crate::notes::Notes;
+use points::chained::ChainedPlaces;
+use points::places::{Place, linked};
 use types::TermNumber;
 
 // The pair of the points of the classes a and b, if they are as far apart as p and q; tells whether neither class has a second point.
 pub(crate) fn mark_single(
-    n: usize,
-    a: u32,
-    p: u64,
-    b: u32,
-    q: u64,
-    points: &[u32],
-    heights: &[u64],
-    class_first: &[u16],
-    class_next: &[u16],
+    places: &ChainedPlaces,
+    x: Place,
+    y: Place,
     pairs: &mut [u8],
     notes: &mut Notes,
 ) -> bool
-    requires { Column n points.now heights.now × (Chains n class_slots points.now class_first.now class_next.now × ((a < n) × ((b < n) × ((p < top) × ((q < top) × Room n pairs.old))))) }
-    ensures { Single n points.now heights.now a p b q result pairs.old pairs.new }
+    requires { let P = places.now in (x.class < P.n) × ((y.class < P.n) × ((x.height < top) × ((y.height < top) × Room P.n pairs.old))) }
+    ensures { let P = places.now in Single P.n P.classes.now P.heights.now x.class x.height y.class y.height result pairs.old pairs.new }
 {
-    let i = linked(class_first, index(a));
-    let j = linked(class_first, index(b));
-    if n <= i {
+    let i = linked(places.class_first, x.class as usize);
+    let j = linked(places.class_first, y.class as usize);
+    if places.n <= i {
         return true;
     }
-    if n <= j {
+    if places.n <= j {
         return true;
     }
-    if linked(class_next, i) < n {
+    if linked(places.class_next, i) < places.n {
         return false;
     }
-    if linked(class_next, j) < n {
+    if linked(places.class_next, j) < places.n {
         return false;
     }
-    if heights[i] + q != heights[j] + p {
+    if places.heights[i] + y.height != places.heights[j] + x.height {
         return true;
     }
-    let fresh = mark_both(n, TermNumber(i), TermNumber(j), pairs);
-    note_pair(fresh, TermNumber(i), TermNumber(j), notes);
+    let fresh = mark_both(places.n, TermNumber(i), TermNumber(j), pairs);
+    notes.note_pair(fresh, TermNumber(i), TermNumber(j));
     true
 }

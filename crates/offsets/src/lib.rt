@@ -14,13 +14,13 @@ ghost use Rattle.integers.specs.Compare.{eq_ℤ};
 pub fn negated(z: i32) -> i64
     ensures { result ≡ neg_ℤ z }
 {
-    -(z as i64)
+    -i64::from(z)
 }
 
 pub fn subtracted(y: i32, z: i32) -> i64
     ensures { result ≡ y -ℤ z }
 {
-    y as i64 - z as i64
+    i64::from(y) - i64::from(z)
 }
 
 // Sums of labels. The callers know the bounds by which they fit (specs/Fits.antt).
@@ -45,6 +45,7 @@ pub fn opposite(a: i64) -> i64
     -a
 }
 
+// It may not go, as the edits same_as_itself and same_reversed are of it.
 pub fn is_same(a: i64, b: i64) -> bool
     ensures { result ≡ eq_ℤ a b }
 {
@@ -55,20 +56,12 @@ pub fn is_same(a: i64, b: i64) -> bool
 pub fn signed(bits: u64) -> i64
     ensures { result ≡ to_z w64 bits }
 {
-    if bits < 0x8000_0000_0000_0000 {
-        bits as i64
-    } else {
-        -1 - (0xFFFF_FFFF_FFFF_FFFF - bits) as i64
-    }
+    bits.cast_signed()
 }
 
 // The bits that spell a number in two's complement.
 pub fn bits(z: i64) -> u64
     ensures { result ≡ of_z w64 z }
 {
-    if 0 <= z {
-        z as u64
-    } else {
-        0xFFFF_FFFF_FFFF_FFFF - (-1 - z) as u64
-    }
+    z.cast_unsigned()
 }

@@ -19,7 +19,7 @@ fn class_of(reps: &[u32], t: usize) -> TermNumber
     requires { t < length reps.now }
     ensures { result.0 ≡ get_or reps.now t 0 }
 {
-    TermNumber(points::places::index(reps[t]))
+    TermNumber(reps[t] as usize)
 }
 
 fn is_variable(terms: &[TermRow], t: TermNumber) -> bool

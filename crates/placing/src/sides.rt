@@ -9,7 +9,7 @@ ghost use Rattle.placing.specs.Placed.{LabelledSides, LeftClass, Near};
 use crate::heights::{lifted, moved};
 use crate::reads::no_class;
 use tables::{PropositionRow, proposition_at};
-use types::{DISEQUALITY, PropositionNumber, index};
+use types::{DISEQUALITY, MOST, PropositionNumber, index};
 
 // The class of the left side of proposition k, if it is a disequality.
 fn left_class(n: usize, propositions: &[PropositionRow], reps: &[u32], k: PropositionNumber) -> u32
@@ -54,6 +54,24 @@ fn right_height(propositions: &[PropositionRow], offs: &[i64], k: PropositionNum
     moved(r.offset, offs[right])
 }
 
+// The memory of the places of all sides.
+#[derive(Drop)]
+pub struct SideColumns {
+    pub left_classes: [u32; MOST],
+    pub left_heights: [u64; MOST],
+    pub right_classes: [u32; MOST],
+    pub right_heights: [u64; MOST],
+}
+
+impl SideColumns {
+    pub const EMPTY: Self = SideColumns {
+        left_classes: [0; MOST],
+        left_heights: [0; MOST],
+        right_classes: [0; MOST],
+        right_heights: [0; MOST],
+    };
+}
+
 // The places of the sides of proposition k, after those of the propositions before it.
 fn fill_side(
     n: usize,
@@ -61,20 +79,17 @@ fn fill_side(
     reps: &[u32],
     offs: &[i64],
     k: PropositionNumber,
-    left_classes: &mut [u32],
-    left_heights: &mut [u64],
-    right_classes: &mut [u32],
-    right_heights: &mut [u64],
+    columns: &mut SideColumns,
 )
     requires labelled_sides { LabelledSides n propositions.now reps.now offs.now × (k.0 < length propositions.now) }
-    requires side_places { SidePlaces n (proposition_in propositions.now) reps.now offs.now k.0 left_classes.old left_heights.old right_classes.old right_heights.old }
-    ensures { SidePlaces n (proposition_in propositions.now) reps.now offs.now (k.0 + 1) left_classes.new left_heights.new right_classes.new right_heights.new }
+    requires side_places { let C = columns.old in SidePlaces n (proposition_in propositions.now) reps.now offs.now k.0 C.left_classes C.left_heights C.right_classes C.right_heights }
+    ensures { let C = columns.new in SidePlaces n (proposition_in propositions.now) reps.now offs.now (k.0 + 1) C.left_classes C.left_heights C.right_classes C.right_heights }
 {
     let j = k.0;
-    left_classes[j] = left_class(n, propositions, reps, k);
-    left_heights[j] = left_height(propositions, offs, k);
-    right_classes[j] = right_class(propositions, reps, k);
-    right_heights[j] = right_height(propositions, offs, k);
+    columns.left_classes[j] = left_class(n, propositions, reps, k);
+    columns.left_heights[j] = left_height(propositions, offs, k);
+    columns.right_classes[j] = right_class(propositions, reps, k);
+    columns.right_heights[j] = right_height(propositions, offs, k);
 }
 
 // The places of the sides of the propositions. Public for the crate `columns`.
@@ -83,26 +98,12 @@ pub fn fill_sides(
     propositions: &[PropositionRow],
     reps: &[u32],
     offs: &[i64],
-    left_classes: &mut [u32],
-    left_heights: &mut [u64],
-    right_classes: &mut [u32],
-    right_heights: &mut [u64],
+    columns: &mut SideColumns,
 )
-    requires labelled_sides { LabelledSides n propositions.now reps.now offs.now }
-    requires left_classes_len { (length left_classes.old ≡ most) × ((length left_heights.old ≡ most) × ((length right_classes.old ≡ most) × (length right_heights.old ≡ most))) }
-    ensures { SidePlaces n (proposition_in propositions.now) reps.now offs.now (length propositions.now) left_classes.new left_heights.new right_classes.new right_heights.new }
+    requires { LabelledSides n propositions.now reps.now offs.now }
+    ensures { let C = columns.new in SidePlaces n (proposition_in propositions.now) reps.now offs.now (length propositions.now) C.left_classes C.left_heights C.right_classes C.right_heights }
 {
     for k in 0..propositions.len() {
-        fill_side(
-            n,
-            propositions,
-            reps,
-            offs,
-            PropositionNumber(k),
-            left_classes,
-            left_heights,
-            right_classes,
-            right_heights,
-        );
+        fill_side(n, propositions, reps, offs, PropositionNumber(k), columns);
     }
 }

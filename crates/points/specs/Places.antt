@@ -3,7 +3,7 @@ use Rattle.std.specs.Prelude.{◌≡◌, ℕ, ◌+◌, ◌*◌, ◌/◌, ◌%◌
 use Rattle.std.proofs.Common.{sym, ◌∙◌, arith, eqb-true, eq-eqb}
 use Rattle.lists.specs.Booleans.{and_true, both_true}
 use Rattle.tables.specs.Limits.{most}
-use Rattle.buckets.specs.Buckets.{NextOf, Chains, Chainable, key_of}
+use Rattle.buckets.specs.Buckets.{NextOf, Chains, KeyChains, Chainable, key_of}
 
 -- heights are below this
 abbrev pub top : ℕ
@@ -77,9 +77,7 @@ place_slot classes heights t = slot_of (class classes t) (height heights t)
 
 -- the chains of a column by place, and by class
 pub record SlotChains (n : ℕ) (classes heights first next : List ℕ) : Type 0 where
-  pub slotted : List ℕ
-  pub slotted_as : (t : ℕ) → t < n → key_of slotted t ≡ place_slot classes heights t
-  pub chains : Chains n slots slotted first next
+  pub chains : KeyChains n slots (place_slot classes heights) first next
 
 pub record Chained (n : ℕ) (classes heights classFirst classNext slotFirst slotNext : List ℕ) : Type 0 where
   pub column : Column n classes heights
@@ -107,17 +105,9 @@ class_keys C room e = record {
   below = λ t h. omega (arith, C.below t h, C.few);
 }
 
-same_next : {n : ℕ} {key other : ℕ → ℕ} {k b f : ℕ} → ((t : ℕ) → t < n → key t ≡ other t) → NextOf n key k b f → NextOf n other k b f
-same_next {n} {key} {other} {k} {b} {f} same N = record {
-  after = N.after;
-  inside = N.inside;
-  hit = λ h. sym (same f h) ∙ N.hit h;
-  none = λ t l h e. N.none t l h (same t (omega (arith, N.inside)) ∙ e);
-}
-
 module _ {n : ℕ} {classes heights first next : List ℕ} (S : SlotChains n classes heights first next) where
   pub slot_start : (k : ℕ) → k < slots → NextOf n (place_slot classes heights) k 0 (slice_index first k)
-  slot_start k h = same_next S.slotted_as (S.chains.starts.from k h)
+  slot_start k h = S.chains.starts.from k h
 
   pub slot_link : (t : ℕ) → t < n → NextOf n (place_slot classes heights) (place_slot classes heights t) (t + 1) (slice_index next t)
-  slot_link t h = rw (← (S.slotted_as t h)) (same_next S.slotted_as (S.chains.links.links t (omega arith) h))
+  slot_link t h = S.chains.links.links t (omega arith) h

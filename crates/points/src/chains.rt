@@ -1,9 +1,9 @@
 // The chains of a column of places, by class and by place.
 ghost use Rattle.std.specs.Prelude.{◌≡◌, ◌<◌, ◌≤◌, length};
 ghost use Rattle.lists.specs.Filled.{Filled};
-ghost use Rattle.points.specs.Places.{Chained, class_slots, Column, place_slot, SlotChains, slots};
+ghost use Rattle.points.specs.Places.{Chained, Column, place_slot, SlotChains, slots};
 
-use crate::places::slot;
+use crate::places::{SLOTS, slot};
 use buckets::chain;
 use types::MOST;
 
@@ -38,20 +38,35 @@ fn chain_slots(n: usize, classes: &[u32], heights: &[u64], first: &mut [u16], ne
     chain(n, &slotted, first, next);
 }
 
-// The chains of both kinds. Public for the crates `differences` and `columns`.
-pub fn chain_places(
-    n: usize,
-    classes: &[u32],
-    heights: &[u64],
-    class_first: &mut [u16],
-    class_next: &mut [u16],
-    slot_first: &mut [u16],
-    slot_next: &mut [u16],
-)
-    requires column { Column n classes.now heights.now }
-    requires class_first_len { (length class_first.old ≡ class_slots) × ((n ≤ length class_next.old) × ((length slot_first.old ≡ slots) × (n ≤ length slot_next.old))) }
-    ensures { Chained n classes.now heights.now class_first.new class_next.new slot_first.new slot_next.new }
+// The chains of both kinds: of each bucket the first number, and of each number the next one.
+#[derive(Drop)]
+pub struct PlaceChains {
+    pub class_first: [u16; CLASSES],
+    pub class_next: [u16; MOST],
+    pub slot_first: [u16; SLOTS],
+    pub slot_next: [u16; MOST],
+}
+
+impl PlaceChains {
+    pub const EMPTY: Self = PlaceChains {
+        class_first: [0; CLASSES],
+        class_next: [0; MOST],
+        slot_first: [0; SLOTS],
+        slot_next: [0; MOST],
+    };
+}
+
+// Makes the chains. Public for the crates `differences` and `columns`.
+pub fn chain_places(n: usize, classes: &[u32], heights: &[u64], chains: &mut PlaceChains)
+    requires { Column n classes.now heights.now }
+    ensures { let C = chains.new in Chained n classes.now heights.now C.class_first C.class_next C.slot_first C.slot_next }
 {
-    chain(n, classes, class_first, class_next);
-    chain_slots(n, classes, heights, slot_first, slot_next);
+    chain(n, classes, &mut chains.class_first, &mut chains.class_next);
+    chain_slots(
+        n,
+        classes,
+        heights,
+        &mut chains.slot_first,
+        &mut chains.slot_next,
+    );
 }

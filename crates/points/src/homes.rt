@@ -5,7 +5,7 @@ ghost use Rattle.points.specs.Places.{Column, SlotChains, Terms};
 ghost use Rattle.points.specs.Homes.{FirstThere, Homes, point_of, Points};
 
 use crate::chains::narrow;
-use crate::places::{index, is_at, linked, slot};
+use crate::places::{Place, is_at, linked, slot};
 use types::TermNumber;
 
 // The first term at the place of t.
@@ -21,11 +21,13 @@ fn first_there(
     ensures { FirstThere classes.now heights.now t.0 result }
 {
     let k = t.0;
-    let class = classes[k];
-    let height = heights[k];
-    let mut j = linked(slot_first, slot(class, height));
+    let at = Place {
+        class: classes[k],
+        height: heights[k],
+    };
+    let mut j = linked(slot_first, slot(at.class, at.height));
     while j < k {
-        if is_at(TermNumber(j), class, height, classes, heights) {
+        if is_at(TermNumber(j), at, classes, heights) {
             return j;
         }
         j = linked(slot_next, j);
@@ -56,7 +58,7 @@ fn point(n: usize, t: TermNumber, class: u32, home: u32) -> u32
     requires { n ≤ most }
     ensures { result ≡ point_of (home == t.0) class n }
 {
-    if index(home) == t.0 {
+    if home as usize == t.0 {
         return class;
     }
     narrow(n)

@@ -3,7 +3,9 @@
 
 #![tactic(auto)]
 
+pub mod chained;
 pub mod chains;
 pub mod homes;
 pub mod leads;
 pub mod places;
+pub mod sides;

@@ -4,7 +4,6 @@ ghost use Rattle.std.specs.Prelude.{◌≡◌, ◌*◌, ◌<◌, ◌≤◌, leng
 ghost use Rattle.tables.specs.Limits.{most};
 ghost use Rattle.points.specs.Places.{is_here, slot_of, slots, top};
 
-use std::num::wrapping_add_u32;
 use types::TermNumber;
 
 // The buckets of places.
@@ -12,6 +11,13 @@ pub const SLOTS: usize = 4096;
 
 // Heights are below this.
 pub const TOP: u64 = 0x1_0000_0000_0000;
+
+// A place.
+#[derive(Clone, Copy, PartialEq, Eq)]
+pub struct Place {
+    pub class: u32,
+    pub height: u64,
+}
 
 // The bucket of a place. Heights in arithmetic progression are spread out.
 pub fn slot(class: u32, height: u64) -> usize
@@ -23,33 +29,21 @@ pub fn slot(class: u32, height: u64) -> usize
     (mixed * 0x9E37_79B1 % 0x1_0000_0000 / 0x10_0000) as usize
 }
 
-fn wide(link: u16) -> usize
-    ensures { result ≡ link }
-{
-    link as usize
-}
-
-pub fn index(class: u32) -> usize
-    ensures { result ≡ class }
-{
-    class as usize
-}
-
 // The first number of a chain, or the next one.
 pub fn linked(links: &[u16], k: usize) -> usize
     requires { k < length links.now }
     ensures { result ≡ slice_index links.now k }
 {
-    wide(links[k])
+    links[k] as usize
 }
 
 // Whether t is at the place.
-pub fn is_at(t: TermNumber, class: u32, height: u64, classes: &[u32], heights: &[u64]) -> bool
+pub fn is_at(t: TermNumber, at: Place, classes: &[u32], heights: &[u64]) -> bool
     requires { (t.0 < length classes.now) × (t.0 < length heights.now) }
-    ensures { result ≡ is_here classes.now heights.now class height t.0 }
+    ensures { result ≡ is_here classes.now heights.now at.class at.height t.0 }
 {
     let k = t.0;
-    (classes[k] == class) & (heights[k] == height)
+    (classes[k] == at.class) & (heights[k] == at.height)
 }
 
 // How many terms each class has. Nothing relies on it.
@@ -57,19 +51,19 @@ pub type Sizes = [u32; 1024];
 
 // Whether one class has fewer terms than another.
 pub fn is_smaller(a: u32, b: u32, sizes: &Sizes) -> bool {
-    sizes[index(a) % 1024] < sizes[index(b) % 1024]
+    sizes[a as usize % 1024] < sizes[b as usize % 1024]
 }
 
 fn count_one(class: u32, sizes: &mut Sizes) {
-    let k = index(class) % 1024;
-    sizes[k] = wrapping_add_u32(sizes[k], 1);
+    let k = class as usize % 1024;
+    sizes[k] = sizes[k].wrapping_add(1);
 }
 
 // Counts the terms of each class.
 pub fn count_sizes(n: usize, classes: &[u32], sizes: &mut Sizes)
     requires { n ≤ length classes.now }
 {
-    for t in 0..n {
-        count_one(classes[t], sizes);
+    for class in &classes[..n] {
+        count_one(*class, sizes);
     }
 }

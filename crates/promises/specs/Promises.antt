@@ -16,59 +16,59 @@ use Rattle.driver.specs.Program as program
 use Rattle.results.specs.Results as numbers
 
 -- Demand 1. Every set of tables gets an answer; a refused call changes nothing; offsets never overflow (`largest_distance`).
-module _ (b : Blame) (T : Tables) (M N : Memory) (r : Solved) (A : Answered b T M N r) where
+module _ (b : Blame) (T : Tables) (M N : Memory) (r : Result Verdict Fault) (A : Answered b T M N r) where
   -- a call is refused exactly if it has a fault, with the number and the place of the first one; marks count as memory in both forms
-  solve_refuses : (f : Fault) → r ≡ Solved.Refused f ↔ (call_fault T M ≡ some f)
+  solve_refuses : (f : Fault) → r ≡ Err f ↔ (call_fault T M ≡ some f)
   solve_refuses = solver.refused_exactly b T M N r A
 
-  solve_answers : call_fault T M ≡ none → (r ≡ Solved.Satisfiable) ⊎ (r ≡ Solved.Contradiction)
+  solve_answers : call_fault T M ≡ none → (r ≡ Ok Verdict.Satisfiable) ⊎ (r ≡ Ok Verdict.Contradiction)
   solve_answers = solver.answered_else b T M N r A
 
   -- a refused call leaves the memory as it was, any other the cells beyond those that it needs
-  refused_memory : (f : Fault) → r ≡ Solved.Refused f → N ≡ M
+  refused_memory : (f : Fault) → r ≡ Err f → N ≡ M
   refused_memory = solver.refused_unchanged b T M N r A
 
   cells_beyond : call_fault T M ≡ none → Beyond T M N
   cells_beyond = solver.beyond_kept b T M N r A
 
 -- with blame and without, `solve` returns the same and leaves the same but for the marks
-forms_agree : (T : Tables) (M N N' : Memory) (r r' : Solved) → Answered Blame.Asked T M N r → Answered Blame.NotAsked T M N' r' → (r ≡ r') × (N.representatives ≡ N'.representatives) × (N.offsets ≡ N'.offsets) × (N.pairs ≡ N'.pairs) × (N.answers ≡ N'.answers)
+forms_agree : (T : Tables) (M N N' : Memory) (r r' : Result Verdict Fault) → Answered Blame.Asked T M N r → Answered Blame.NotAsked T M N' r' → (r ≡ r') × (N.representatives ≡ N'.representatives) × (N.offsets ≡ N'.offsets) × (N.pairs ≡ N'.pairs) × (N.answers ≡ N'.answers)
 forms_agree = solver.forms_agree Blame.Asked Blame.NotAsked
 
 -- `verdict` refuses what `solve` refuses, but for the lent memory, and else returns the same
-verdict_answers : (T : Tables) → ((f : Fault) → verdict_of T ≡ Solved.Refused f ↔ (tables_fault most T ≡ some f)) × (tables_fault most T ≡ none → (verdict_of T ≡ Solved.Satisfiable) ⊎ (verdict_of T ≡ Solved.Contradiction))
+verdict_answers : (T : Tables) → ((f : Fault) → verdict_of T ≡ Err f ↔ (tables_fault most T ≡ some f)) × (tables_fault most T ≡ none → (verdict_of T ≡ Ok Verdict.Satisfiable) ⊎ (verdict_of T ≡ Ok Verdict.Contradiction))
 verdict_answers T = (solver.verdict_refused_exactly T, solver.verdict_else T)
 
-verdict_same : (b : Blame) (T : Tables) (M N : Memory) (r : Solved) → Answered b T M N r → memory_fault T M ≡ none → r ≡ verdict_of T
+verdict_same : (b : Blame) (T : Tables) (M N : Memory) (r : Result Verdict Fault) → Answered b T M N r → memory_fault T M ≡ none → r ≡ verdict_of T
 verdict_same = solver.solve_agrees
 
 -- Every text gets an answer: 8 where a table has room for less than 512 records, else the text decides.
-module _ (text : List ℕ) (C D : Rows) (r : ReadResult) (A : ReadAs text C r D) where
-  read_short : short_rows C ≡ true → r ≡ ReadResult.Refused table_too_short
+module _ (text : List ℕ) (C D : Rows) (r : Result Counts Fault) (A : ReadAs text C r D) where
+  read_short : short_rows C ≡ true → r ≡ Err table_too_short
   read_short = reads.short_refused text C D r A
 
-  read_refuses : short_rows C ≡ false → (f : Fault) → r ≡ ReadResult.Refused f ↔ (reading text ≡ refused f)
+  read_refuses : short_rows C ≡ false → (f : Fault) → r ≡ Err f ↔ (reading text ≡ refused f)
   read_refuses = reads.refused_exactly text C D r A
 
-  read_accepts : short_rows C ≡ false → (R : Records) → reading text ≡ accepted R → (r ≡ ReadResult.Accepted (counts_of R)) × (D ≡ rows_with R C)
+  read_accepts : short_rows C ≡ false → (R : Records) → reading text ≡ accepted R → (r ≡ Ok (counts_of R)) × (D ≡ rows_with R C)
   read_accepts = reads.accepted_rows text C D r A
 
-  refused_rows : (f : Fault) → r ≡ ReadResult.Refused f → D ≡ C
+  refused_rows : (f : Fault) → r ≡ Err f → D ≡ C
   refused_rows = reads.refused_unchanged text C D r A
 
   -- the program writes the refusal, or what `solve`, asked for blame, returns and leaves for the rows
-  output_refused : short_rows C ≡ false → (f : Fault) → r ≡ ReadResult.Refused f → output text ≡ refusal_frame f
+  output_refused : short_rows C ≡ false → (f : Fault) → r ≡ Err f → output text ≡ refusal_frame f
   output_refused = program.output_refused text C D r A
 
-  module _ (c : Counts) (e : r ≡ ReadResult.Accepted c) (M N : Memory) (s : Solved) (B : Answered Blame.Asked (read_tables c D) M N s) (room : memory_fault (read_tables c D) M ≡ none) where
-    output_satisfiable : s ≡ Solved.Satisfiable → output text ≡ verdict_frame Verdict.Satisfiable ++ (label_frames 0 (take c.terms N.representatives) (take c.terms N.offsets) ++ answer_frames (take c.questions N.answers))
+  module _ (c : Counts) (e : r ≡ Ok c) (M N : Memory) (s : Result Verdict Fault) (B : Answered Blame.Asked (read_tables c D) M N s) (room : memory_fault (read_tables c D) M ≡ none) where
+    output_satisfiable : s ≡ Ok Verdict.Satisfiable → output text ≡ verdict_frame Verdict.Satisfiable ++ (label_frames 0 (take c.terms N.representatives) (take c.terms N.offsets) ++ answer_frames (take c.questions N.answers))
     output_satisfiable = program.output_satisfiable text C D r A c e M N s B room
 
-    output_contradiction : s ≡ Solved.Contradiction → output text ≡ verdict_frame Verdict.Contradiction ++ (blame_frames (take c.propositions N.marks) ++ answer_frames (take c.questions N.answers))
+    output_contradiction : s ≡ Ok Verdict.Contradiction → output text ≡ verdict_frame Verdict.Contradiction ++ (blame_frames (take c.propositions N.marks) ++ answer_frames (take c.questions N.answers))
     output_contradiction = program.output_contradiction text C D r A c e M N s B room
 
 -- `solve` does not refuse the rows of an accepted text
-accepted_passes : (text : List ℕ) (C : Rows) (c : Counts) (D : Rows) → ReadAs text C (ReadResult.Accepted c) D → tables_fault most (read_tables c D) ≡ none
+accepted_passes : (text : List ℕ) (C : Rows) (c : Counts) (D : Rows) → ReadAs text C (Ok c) D → tables_fault most (read_tables c D) ≡ none
 accepted_passes = read_passes
 
 -- the faulty line is handed back; of an accepted text, or without room, the empty part at its start
@@ -89,16 +89,16 @@ enough_judged : (text : List ℕ) → reading (take judged text) ≡ reading tex
 enough_judged = judged_enough
 
 -- The numbers for C tell a refusal and its place, or the counts, exactly.
-solve_number : (b : Blame) (T : Tables) (M N : Memory) (r : ℕ) (A : AnsweredNumber b T M N r) (f : Fault) → A.solved ≡ Solved.Refused f → Tells 16 r f
+solve_number : (b : Blame) (T : Tables) (M N : Memory) (r : ℕ) (A : AnsweredNumber b T M N r) (f : Fault) → A.solved ≡ Err f → Tells 16 r f
 solve_number = numbers.solve_tells
 
-verdict_number : (T : Tables) (f : Fault) → verdict_of T ≡ Solved.Refused f → Tells 16 (number_of_solved (verdict_of T)) f
+verdict_number : (T : Tables) (f : Fault) → verdict_of T ≡ Err f → Tells 16 (number_of_solved (verdict_of T)) f
 verdict_number = numbers.verdict_tells
 
-read_number : (text : List ℕ) (C D : Rows) (r : ℕ) (A : ReadNumber text C r D) (f : Fault) → A.result ≡ ReadResult.Refused f → Tells 48 r f
+read_number : (text : List ℕ) (C D : Rows) (r : ℕ) (A : ReadNumber text C r D) (f : Fault) → A.result ≡ Err f → Tells 48 r f
 read_number = numbers.read_tells
 
-read_number_counts : (text : List ℕ) (C D : Rows) (r : ℕ) (A : ReadNumber text C r D) (c : Counts) → A.result ≡ ReadResult.Accepted c → TellsCounts r c
+read_number_counts : (text : List ℕ) (C D : Rows) (r : ℕ) (A : ReadNumber text C r D) (c : Counts) → A.result ≡ Ok c → TellsCounts r c
 read_number_counts = numbers.read_tells_counts
 
 -- 0 does not ask for blame, every other number does
@@ -106,7 +106,7 @@ blame_number : (blame_of_number 0 ≡ Blame.NotAsked) × ((n : ℕ) → 0 < n �
 blame_number = asks_unless_zero
 
 -- Demands 2 and 3, of an accepted call.
-module _ (b : Blame) (T : Tables) (M N : Memory) (r : Solved) (A : Answered b T M N r) (accepts : call_fault T M ≡ none) where
+module _ (b : Blame) (T : Tables) (M N : Memory) (r : Result Verdict Fault) (A : Answered b T M N r) (accepts : call_fault T M ≡ none) where
   abbrev ts : List Term
   ts = terms_of T
 
@@ -117,14 +117,14 @@ module _ (b : Blame) (T : Tables) (M N : Memory) (r : Solved) (A : Answered b T 
   G = listed ts ps
 
   -- Demand 2. A contradiction is answered exactly where the rules derive one.
-  contradiction_derived : r ≡ Solved.Contradiction ↔ Contradiction ts G
+  contradiction_derived : r ≡ Ok Verdict.Contradiction ↔ Contradiction ts G
   contradiction_derived = solver.contradiction_derived b T M N r A accepts
 
   -- without blame every mark is 0
   marks_none : b ≡ Blame.NotAsked → (k : ℕ) → k < length ps → get_or N.marks k 0 ≡ 0
   marks_none = solver.unmarked b T M N r A accepts
 
-  module _ (sat : r ≡ Solved.Satisfiable) where
+  module _ (sat : r ≡ Ok Verdict.Satisfiable) where
     -- a term's representative is the lowest-numbered term of its class, and its offset is that from it
     representative_lowest : (t : ℕ) → t < length ts → Equal ts G t (get_or N.offsets t (pos 0)) (get_or N.representatives t 0) × ((u : ℕ) (z : ℤ) → u < length ts → Equal ts G t z u → get_or N.representatives t 0 ≤ u)
     representative_lowest = solver.representative_derived b T M N r A accepts sat
@@ -160,7 +160,7 @@ module _ (b : Blame) (T : Tables) (M N : Memory) (r : Solved) (A : Answered b T 
     largest_distance : {t1 t2 : ℕ} {z : ℤ} → t1 < length ts → t2 < length ts → Equal ts G t1 z t2 → Within ((most - 1) * offset_limit) z
     largest_distance = solver.distance b T M N r A accepts sat
 
-  module _ (con : r ≡ Solved.Contradiction) where
+  module _ (con : r ≡ Ok Verdict.Contradiction) where
     -- each term is its own representative at offset 0, no pair bit is 1, each answer is 3
     own_representative : (t : ℕ) → t < length ts → (get_or N.representatives t 0 ≡ t) × (get_or N.offsets t (pos 0) ≡ pos 0)
     own_representative = solver.own_representative b T M N r A accepts con
@@ -180,10 +180,10 @@ module _ (b : Blame) (T : Tables) (M N : Memory) (r : Solved) (A : Answered b T 
     blamed_unless = solver.blamed_unless b T M N r A accepts con
 
   -- Demand 3. A contradiction is answered exactly where no assignment exists.
-  contradiction_assignments : r ≡ Solved.Contradiction ↔ ((P : Placement) → Assignment ts G P → ⊥)
+  contradiction_assignments : r ≡ Ok Verdict.Contradiction ↔ ((P : Placement) → Assignment ts G P → ⊥)
   contradiction_assignments = solver.contradiction_assignments b T M N r A accepts
 
-  module _ (sat : r ≡ Solved.Satisfiable) where
+  module _ (sat : r ≡ Ok Verdict.Satisfiable) where
     representative_holds : (t : ℕ) → t < length ts → (P : Placement) → Assignment ts G P → Holds P t (get_or N.offsets t (pos 0)) (get_or N.representatives t 0)
     representative_holds = solver.representative_assignments b T M N r A accepts sat
 
@@ -197,7 +197,7 @@ module _ (b : Blame) (T : Tables) (M N : Memory) (r : Solved) (A : Answered b T 
     different_differs = solver.different_assignments b T M N r A accepts sat
 
   -- with blame, the blamed propositions have no assignment, and one without any one of them: they are minimal
-  module _ (con : r ≡ Solved.Contradiction) (asked : b ≡ Blame.Asked) where
+  module _ (con : r ≡ Ok Verdict.Contradiction) (asked : b ≡ Blame.Asked) where
     blamed_none : (P : Placement) → Assignment ts (listed ts (marked N.marks ps)) P → ⊥
     blamed_none = solver.blamed_assignments b T M N r A accepts con asked
 
@@ -205,11 +205,11 @@ module _ (b : Blame) (T : Tables) (M N : Memory) (r : Solved) (A : Answered b T 
     blamed_minimal = solver.blamed_minimal b T M N r A accepts con asked
 
 -- Demands 2 and 3 of `verdict`.
-module _ (T : Tables) (r : Solved) (is : r ≡ verdict_of T) (accepts : tables_fault most T ≡ none) where
-  verdict_derived : r ≡ Solved.Contradiction ↔ Contradiction (terms_of T) (listed (terms_of T) (propositions_of T))
+module _ (T : Tables) (r : Result Verdict Fault) (is : r ≡ verdict_of T) (accepts : tables_fault most T ≡ none) where
+  verdict_derived : r ≡ Ok Verdict.Contradiction ↔ Contradiction (terms_of T) (listed (terms_of T) (propositions_of T))
   verdict_derived = solver.verdict_derived T r is accepts
 
-  verdict_assignments : r ≡ Solved.Contradiction ↔ ((P : Placement) → Assignment (terms_of T) (listed (terms_of T) (propositions_of T)) P → ⊥)
+  verdict_assignments : r ≡ Ok Verdict.Contradiction ↔ ((P : Placement) → Assignment (terms_of T) (listed (terms_of T) (propositions_of T)) P → ⊥)
   verdict_assignments = solver.verdict_assignments T r is accepts
 
 -- The largest distance is reached: by 512 auxiliaries, each −2,147,483,648 from the next, which have an assignment.

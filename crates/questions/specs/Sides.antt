@@ -4,7 +4,7 @@ use Rattle.std.proofs.Common.{arith}
 use Rattle.lists.specs.Filled.{Filled}
 use Rattle.lists.specs.Tabulate.{tabulate, from_zero}
 use Rattle.tables.specs.Limits.{most}
-use Rattle.buckets.specs.Buckets.{Chainable, Chains}
+use Rattle.buckets.specs.Buckets.{Chainable, Chains, key_chains}
 use Rattle.points.specs.Places.{class, height, slot_of, SlotChains, slots, top}
 
 -- how far the height p is above q, as a number
@@ -66,7 +66,5 @@ pub side_chains :
     Chains m slots keys first next →
     SideChains m leftClasses leftHeights rightHeights first next
 side_chains {m} {leftClasses} {keys} leftHeights rightHeights F C = record {
-  slotted = keys;
-  slotted_as = λ k h. rw (distance_at m leftHeights rightHeights k h) (F.done k h);
-  chains = C;
+  chains = key_chains (λ k h. rw (distance_at m leftHeights rightHeights k h) (F.done k h)) C;
 }

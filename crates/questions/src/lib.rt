@@ -3,141 +3,82 @@
 
 #![tactic(auto)]
 
+pub mod facts;
 pub mod sides;
 
 ghost use Rattle.std.specs.Prelude.{◌≡◌, ◌<◌, ◌≤◌};
 ghost use Rattle.tables.specs.Limits.{most};
 ghost use Rattle.marking.specs.Marks.{Inside, Room};
-ghost use Rattle.points.specs.Places.{Chained, Column, SlotChains, top};
-ghost use Rattle.questions.specs.Answers.{Judged, Judging};
-ghost use Rattle.questions.specs.Searches.{bit_of, Found, FoundPair, From, is_met, is_same_slot, is_shown, Listed, Met, OneWay, Opposed, Row, Rows, is_row_shown};
-ghost use Rattle.questions.specs.Sides.{SideChains};
+ghost use Rattle.points.specs.Places.{top};
+ghost use Rattle.questions.specs.Answers.{Judged};
+ghost use Rattle.questions.specs.Searches.{bit_of, Found, FoundPair, From, is_met, is_same_slot, is_shown, Listed, Met, OneWay, Opposed, Row, is_row_shown};
 
+use facts::Facts;
 use marking::base::classes_differ;
 use marking::bits::test_pair;
-use points::places::{Sizes, TOP, index, is_at, is_smaller, linked, slot};
+use points::chained::ChainedPlaces;
+use points::places::{Place, Sizes, TOP, is_at, is_smaller, linked, slot};
+use points::sides::SidePlaces;
 use types::{Answer, PropositionNumber, TermNumber};
 
 // Whether two places are one.
-fn same_place(a: u32, p: u64, b: u32, q: u64) -> bool
-    ensures { result ≡ is_same_slot a p b q }
+fn same_place(x: Place, y: Place) -> bool
+    ensures { result ≡ is_same_slot x.class x.height y.class y.height }
 {
-    (a == b) & (p == q)
+    x == y
 }
 
-// Whether the places (c, g) and (d, h) are in the classes a and b, as far apart as p and q.
-fn shows(c: u32, g: u64, d: u32, h: u64, a: u32, p: u64, b: u32, q: u64) -> bool
-    requires { (g < top) × ((h < top) × ((p < top) × (q < top))) }
-    ensures { result ≡ is_shown c g d h a p b q }
+// Whether two places are in the classes of x and y, and as far apart.
+fn shows(left: Place, right: Place, x: Place, y: Place) -> bool
+    requires { (left.height < top) × ((right.height < top) × ((x.height < top) × (y.height < top))) }
+    ensures { result ≡ is_shown left.class left.height right.class right.height x.class x.height y.class y.height }
 {
-    (c == a) & (d == b) & (g + q == h + p)
+    (left.class == x.class)
+        & (right.class == y.class)
+        & (left.height + y.height == right.height + x.height)
 }
 
 // Whether proposition k is a disequality between places as far apart as (a, p) and (b, q).
-fn shows_side(
-    k: PropositionNumber,
-    a: u32,
-    p: u64,
-    b: u32,
-    q: u64,
-    left_classes: &[u32],
-    left_heights: &[u64],
-    right_classes: &[u32],
-    right_heights: &[u64],
-) -> bool
-    requires { Row left_classes.now left_heights.now right_classes.now right_heights.now k.0 × ((p < top) × (q < top)) }
-    ensures { result ≡ is_row_shown left_classes.now left_heights.now right_classes.now right_heights.now a p b q k.0 }
+fn shows_side(k: PropositionNumber, x: Place, y: Place, sides: &SidePlaces) -> bool
+    requires { let S = sides.now in Row S.left_classes.now S.left_heights.now S.right_classes.now S.right_heights.now k.0 × ((x.height < top) × (y.height < top)) }
+    ensures { let S = sides.now in result ≡ is_row_shown S.left_classes.now S.left_heights.now S.right_classes.now S.right_heights.now x.class x.height y.class y.height k.0 }
 {
     let i = k.0;
-    let c = left_classes[i];
-    let g = left_heights[i];
-    let d = right_classes[i];
-    let h = right_heights[i];
-    shows(c, g, d, h, a, p, b, q)
+    let left = Place {
+        class: sides.left_classes[i],
+        height: sides.left_heights[i],
+    };
+    let right = Place {
+        class: sides.right_classes[i],
+        height: sides.right_heights[i],
+    };
+    shows(left, right, x, y)
 }
 
 // Whether a disequality is between places as far apart as (a, p) and (b, q): a walk along those of the same left class and distance.
-fn any_side(
-    m: usize,
-    a: u32,
-    p: u64,
-    b: u32,
-    q: u64,
-    left_classes: &[u32],
-    left_heights: &[u64],
-    right_classes: &[u32],
-    right_heights: &[u64],
-    side_first: &[u16],
-    side_next: &[u16],
-) -> bool
-    requires rows { Rows m left_classes.now left_heights.now right_classes.now right_heights.now × ((p < top) × (q < top)) }
-    requires side_chains { SideChains m left_classes.now left_heights.now right_heights.now side_first.now side_next.now × (a ≤ most) }
-    ensures { Found m (OneWay left_classes.now left_heights.now right_classes.now right_heights.now m a p b q) result }
+fn any_side(facts: &Facts, x: Place, y: Place) -> bool
+    requires rows { (x.height < top) × (y.height < top) }
+    requires side_chains { x.class ≤ most }
+    ensures { let F = facts.now in Found F.m (OneWay F.sides.left_classes.now F.sides.left_heights.now F.sides.right_classes.now F.sides.right_heights.now F.m x.class x.height y.class y.height) result }
 {
-    let mut k = linked(side_first, slot(a, p + TOP - q));
-    while k < m {
-        if shows_side(
-            PropositionNumber(k),
-            a,
-            p,
-            b,
-            q,
-            left_classes,
-            left_heights,
-            right_classes,
-            right_heights,
-        ) {
+    let mut k = linked(facts.side_first, slot(x.class, x.height + TOP - y.height));
+    while k < facts.m {
+        if shows_side(PropositionNumber(k), x, y, &facts.sides) {
             return true;
         }
-        k = linked(side_next, k);
+        k = linked(facts.side_next, k);
     }
     false
 }
 
 // Whether a disequality, either way round, says that the places (a, p) and (b, q) are different.
-fn any_listed(
-    m: usize,
-    a: u32,
-    p: u64,
-    b: u32,
-    q: u64,
-    left_classes: &[u32],
-    left_heights: &[u64],
-    right_classes: &[u32],
-    right_heights: &[u64],
-    side_first: &[u16],
-    side_next: &[u16],
-) -> bool
-    requires rows { Rows m left_classes.now left_heights.now right_classes.now right_heights.now × ((p < top) × (q < top)) }
-    requires side_chains { SideChains m left_classes.now left_heights.now right_heights.now side_first.now side_next.now × ((a ≤ most) × (b ≤ most)) }
-    ensures { Found m (Listed left_classes.now left_heights.now right_classes.now right_heights.now a p b q) result }
+fn any_listed(facts: &Facts, x: Place, y: Place) -> bool
+    requires rows { (x.height < top) × (y.height < top) }
+    requires side_chains { (x.class ≤ most) × (y.class ≤ most) }
+    ensures { let F = facts.now in Found F.m (Listed F.sides.left_classes.now F.sides.left_heights.now F.sides.right_classes.now F.sides.right_heights.now x.class x.height y.class y.height) result }
 {
-    let there = any_side(
-        m,
-        a,
-        p,
-        b,
-        q,
-        left_classes,
-        left_heights,
-        right_classes,
-        right_heights,
-        side_first,
-        side_next,
-    );
-    let back = any_side(
-        m,
-        b,
-        q,
-        a,
-        p,
-        left_classes,
-        left_heights,
-        right_classes,
-        right_heights,
-        side_first,
-        side_next,
-    );
+    let there = any_side(facts, x, y);
+    let back = any_side(facts, y, x);
     there | back
 }
 
@@ -154,80 +95,51 @@ fn test_either(n: usize, i: TermNumber, j: TermNumber, mirrored: bool, pairs: &[
 
 // Whether j reads the place, and differs from i.
 fn differs_there(
-    n: usize,
+    places: &ChainedPlaces,
     i: TermNumber,
     j: TermNumber,
-    class: u32,
-    height: u64,
+    at: Place,
     mirrored: bool,
-    reads: &[u32],
-    read_heights: &[u64],
     pairs: &[u8],
 ) -> bool
-    requires { Column n reads.now read_heights.now × (Inside n i.0 j.0 × Room n pairs.now) }
-    ensures { result ≡ is_met n reads.now read_heights.now pairs.now mirrored class height i.0 j.0 }
+    requires { let P = places.now in Inside P.n i.0 j.0 × Room P.n pairs.now }
+    ensures { let P = places.now in result ≡ is_met P.n P.classes.now P.heights.now pairs.now mirrored at.class at.height i.0 j.0 }
 {
-    if !is_at(j, class, height, reads, read_heights) {
+    if !is_at(j, at, places.classes, places.heights) {
         return false;
     }
-    test_either(n, i, j, mirrored, pairs)
+    test_either(places.n, i, j, mirrored, pairs)
 }
 
 // Whether i differs from a dereference that reads the place.
-fn any_there(
-    n: usize,
-    i: TermNumber,
-    class: u32,
-    height: u64,
-    mirrored: bool,
-    reads: &[u32],
-    read_heights: &[u64],
-    slot_first: &[u16],
-    slot_next: &[u16],
-    pairs: &[u8],
-) -> bool
-    requires { Column n reads.now read_heights.now × (SlotChains n reads.now read_heights.now slot_first.now slot_next.now × ((class ≤ n) × ((height < top) × ((i.0 < n) × Room n pairs.now)))) }
-    ensures { Found n (Met n reads.now read_heights.now pairs.now mirrored class height i.0) result }
+fn any_there(places: &ChainedPlaces, i: TermNumber, at: Place, mirrored: bool, pairs: &[u8]) -> bool
+    requires { let P = places.now in (at.class ≤ P.n) × ((at.height < top) × ((i.0 < P.n) × Room P.n pairs.now)) }
+    ensures { let P = places.now in Found P.n (Met P.n P.classes.now P.heights.now pairs.now mirrored at.class at.height i.0) result }
 {
-    let mut j = linked(slot_first, slot(class, height));
-    while j < n {
-        if differs_there(
-            n,
-            i,
-            TermNumber(j),
-            class,
-            height,
-            mirrored,
-            reads,
-            read_heights,
-            pairs,
-        ) {
+    let mut j = linked(places.slot_first, slot(at.class, at.height));
+    while j < places.n {
+        if differs_there(places, i, TermNumber(j), at, mirrored, pairs) {
             return true;
         }
-        j = linked(slot_next, j);
+        j = linked(places.slot_next, j);
     }
     false
 }
 
 // Whether i differs from a dereference that reads class b, as far from what i reads as q from p.
 fn any_with(
-    n: usize,
+    places: &ChainedPlaces,
     i: TermNumber,
     p: u64,
-    b: u32,
-    q: u64,
+    y: Place,
     mirrored: bool,
-    reads: &[u32],
-    read_heights: &[u64],
-    slot_first: &[u16],
-    slot_next: &[u16],
     pairs: &[u8],
 ) -> bool
-    requires { Column n reads.now read_heights.now × (SlotChains n reads.now read_heights.now slot_first.now slot_next.now × ((b ≤ n) × ((p < top) × ((q < top) × ((i.0 < n) × Room n pairs.now))))) }
-    ensures { Found n (Opposed n reads.now read_heights.now pairs.now mirrored p b q i.0) result }
+    requires { let P = places.now in (y.class ≤ P.n) × ((p < top) × ((y.height < top) × ((i.0 < P.n) × Room P.n pairs.now))) }
+    ensures { let P = places.now in Found P.n (Opposed P.n P.classes.now P.heights.now pairs.now mirrored p y.class y.height i.0) result }
 {
     let k = i.0;
-    let above = read_heights[k] + q;
+    let above = places.heights[k] + y.height;
     if above < p {
         return false;
     }
@@ -236,177 +148,58 @@ fn any_with(
         return false;
     }
     any_there(
-        n,
+        places,
         i,
-        b,
-        height,
+        Place {
+            class: y.class,
+            height,
+        },
         mirrored,
-        reads,
-        read_heights,
-        slot_first,
-        slot_next,
         pairs,
     )
 }
 
 // Whether dereferences that read the classes a and b, as far apart as p and q, differ.
-fn any_from(
-    n: usize,
-    a: u32,
-    p: u64,
-    b: u32,
-    q: u64,
-    mirrored: bool,
-    reads: &[u32],
-    read_heights: &[u64],
-    class_first: &[u16],
-    class_next: &[u16],
-    slot_first: &[u16],
-    slot_next: &[u16],
-    pairs: &[u8],
-) -> bool
-    requires { Chained n reads.now read_heights.now class_first.now class_next.now slot_first.now slot_next.now × ((a ≤ n) × ((b ≤ n) × ((p < top) × ((q < top) × Room n pairs.now)))) }
-    ensures { Found n (From n reads.now read_heights.now pairs.now mirrored a p b q) result }
+fn any_from(places: &ChainedPlaces, x: Place, y: Place, mirrored: bool, pairs: &[u8]) -> bool
+    requires { let P = places.now in (x.class ≤ P.n) × ((y.class ≤ P.n) × ((x.height < top) × ((y.height < top) × Room P.n pairs.now))) }
+    ensures { let P = places.now in Found P.n (From P.n P.classes.now P.heights.now pairs.now mirrored x.class x.height y.class y.height) result }
 {
-    let mut i = linked(class_first, index(a));
-    while i < n {
-        if any_with(
-            n,
-            TermNumber(i),
-            p,
-            b,
-            q,
-            mirrored,
-            reads,
-            read_heights,
-            slot_first,
-            slot_next,
-            pairs,
-        ) {
+    let mut i = linked(places.class_first, x.class as usize);
+    while i < places.n {
+        if any_with(places, TermNumber(i), x.height, y, mirrored, pairs) {
             return true;
         }
-        i = linked(class_next, i);
+        i = linked(places.class_next, i);
     }
     false
 }
 
 // The same, from the smaller class; from b, each pair is met mirrored. Which one is smaller only counts for the time that it takes.
-fn any_values(
-    n: usize,
-    a: u32,
-    p: u64,
-    b: u32,
-    q: u64,
-    reads: &[u32],
-    read_heights: &[u64],
-    class_first: &[u16],
-    class_next: &[u16],
-    slot_first: &[u16],
-    slot_next: &[u16],
-    sizes: &Sizes,
-    pairs: &[u8],
-) -> bool
-    requires { Chained n reads.now read_heights.now class_first.now class_next.now slot_first.now slot_next.now × ((a ≤ n) × ((b ≤ n) × ((p < top) × ((q < top) × Room n pairs.now)))) }
-    ensures { FoundPair n reads.now read_heights.now pairs.now a p b q result }
+fn any_values(places: &ChainedPlaces, x: Place, y: Place, sizes: &Sizes, pairs: &[u8]) -> bool
+    requires { let P = places.now in (x.class ≤ P.n) × ((y.class ≤ P.n) × ((x.height < top) × ((y.height < top) × Room P.n pairs.now))) }
+    ensures { let P = places.now in FoundPair P.n P.classes.now P.heights.now pairs.now x.class x.height y.class y.height result }
 {
-    if is_smaller(b, a, sizes) {
-        return any_from(
-            n,
-            b,
-            q,
-            a,
-            p,
-            true,
-            reads,
-            read_heights,
-            class_first,
-            class_next,
-            slot_first,
-            slot_next,
-            pairs,
-        );
+    if is_smaller(y.class, x.class, sizes) {
+        return any_from(places, y, x, true, pairs);
     }
-    any_from(
-        n,
-        a,
-        p,
-        b,
-        q,
-        false,
-        reads,
-        read_heights,
-        class_first,
-        class_next,
-        slot_first,
-        slot_next,
-        pairs,
-    )
+    any_from(places, x, y, false, pairs)
 }
 
 // The answer to the question whether the places (a, p) and (b, q) are one. Public for the crate `columns`.
-pub fn judge(
-    n: usize,
-    m: usize,
-    a: u32,
-    p: u64,
-    b: u32,
-    q: u64,
-    reads: &[u32],
-    read_heights: &[u64],
-    class_first: &[u16],
-    class_next: &[u16],
-    slot_first: &[u16],
-    slot_next: &[u16],
-    sizes: &Sizes,
-    left_classes: &[u32],
-    left_heights: &[u64],
-    right_classes: &[u32],
-    right_heights: &[u64],
-    side_first: &[u16],
-    side_next: &[u16],
-    apart: &[u8],
-    pairs: &[u8],
-) -> Answer
-    requires judging { Judging n m reads.now read_heights.now class_first.now class_next.now slot_first.now slot_next.now left_classes.now left_heights.now right_classes.now right_heights.now side_first.now side_next.now apart.now pairs.now }
-    requires a_lt_n { (a < n) × ((b < n) × ((p < top) × (q < top))) }
-    ensures { Judged n m reads.now read_heights.now left_classes.now left_heights.now right_classes.now right_heights.now apart.now pairs.now a p b q result }
+pub fn judge(facts: &Facts, x: Place, y: Place) -> Answer
+    requires { let F = facts.now in (x.class < F.reads.n) × ((y.class < F.reads.n) × ((x.height < top) × (y.height < top))) }
+    ensures { let F = facts.now in Judged F.reads.n F.m F.reads.classes.now F.reads.heights.now F.sides.left_classes.now F.sides.left_heights.now F.sides.right_classes.now F.sides.right_heights.now F.apart.now F.pairs.now x.class x.height y.class y.height result }
 {
-    if same_place(a, p, b, q) {
+    if same_place(x, y) {
         return Answer::Equal;
     }
-    if classes_differ(n, a, p, b, q, apart) {
+    if classes_differ(facts.reads.n, x, y, facts.apart) {
         return Answer::Different;
     }
-    if any_listed(
-        m,
-        a,
-        p,
-        b,
-        q,
-        left_classes,
-        left_heights,
-        right_classes,
-        right_heights,
-        side_first,
-        side_next,
-    ) {
+    if any_listed(facts, x, y) {
         return Answer::Different;
     }
-    if any_values(
-        n,
-        a,
-        p,
-        b,
-        q,
-        reads,
-        read_heights,
-        class_first,
-        class_next,
-        slot_first,
-        slot_next,
-        sizes,
-        pairs,
-    ) {
+    if any_values(&facts.reads, x, y, facts.sizes, facts.pairs) {
         return Answer::Different;
     }
     Answer::Neither

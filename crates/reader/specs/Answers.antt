@@ -1,5 +1,5 @@
 -- The answers of the public functions, and every lent row afterwards.
-use Rattle.std.specs.Prelude.{ℕ, ◌+◌, ◌≤◌, ◌≡◌, refl, Bool, true, false, ◌||◌, List, ltb, length, take, drop}
+use Rattle.std.specs.Prelude.{ℕ, ◌+◌, ◌≤◌, ◌≡◌, refl, Bool, true, false, ◌||◌, List, ltb, length, take, drop, Result, Ok, Err}
 use Rattle.std.proofs.Common.{ap, ltb-false}
 use native.Mathlib.Omega.{arith}
 use Rattle.std.specs.Borrow.{Bor}
@@ -9,11 +9,9 @@ use Rattle.types.specs.declared.Fault.{Fault}
 use Rattle.types.specs.declared.Refusal.TheVariants.{TooShort}
 use Rattle.tables.specs.Limits.{most}
 use Rattle.text.specs.Reading.{Records, Reading, accepted, refused, reading, Part, part_of}
-use Rattle.types.specs.declared.ReadResult.{ReadResult}
-use Rattle.types.specs.declared.ReadResult.TheVariants.{Accepted, Refused}
 use Rattle.types.specs.declared.Counts.{Counts}
 use Rattle.reader.specs.declared.FaultyPart.{FaultyPart}
-use Rattle.reader.specs.declared.Loaded.TheVariants as loadeds
+use Rattle.reader.specs.declared.FaultyLine.{FaultyLine}
 use Rattle.frames.specs.Rows.{Rows, RoomForMost, rows_with}
 use Rattle.reader.specs.Loading.{counts_of, loaded}
 
@@ -31,16 +29,16 @@ table_too_short = record { refusal = TooShort; place = 0 }
 unfoldable pub read_into : Rows → List ℕ → Reading
 read_into C text = choose (short_rows C) (refused table_too_short) (reading text)
 
-abbrev pub answer : Reading → ReadResult
-answer (accepted R) = Accepted (counts_of R)
-answer (refused f) = Refused f
+abbrev pub answer : Reading → Result Counts Fault
+answer (accepted R) = Ok (counts_of R)
+answer (refused f) = Err f
 
 -- every lent row afterwards: as it was, if the text is refused
 abbrev pub left : Reading → Rows → Rows
 left (accepted R) C = rows_with R C
 left (refused f) C = C
 
-pub record ReadAs (text : List ℕ) (C : Rows) (r : ReadResult) (D : Rows) : Type 0 where
+pub record ReadAs (text : List ℕ) (C : Rows) (r : Result Counts Fault) (D : Rows) : Type 0 where
   pub result : r ≡ answer (read_into C text)
   pub cells : D ≡ left (read_into C text) C
 
@@ -83,7 +81,7 @@ read_into_lem text C R = go (short_rows C)
 
 -- the answers of `read` from those of its tests
 module _ (text : List ℕ) (C : Rows) where
-  pub read_short : short_rows C ≡ true → ReadAs text C (Refused table_too_short) C
+  pub read_short : short_rows C ≡ true → ReadAs text C (Err table_too_short) C
   unfolding read_into
   read_short e = record { result = rw e; cells = rw e }
 
@@ -92,20 +90,20 @@ module _ (text : List ℕ) (C : Rows) where
     unfolding read_into
     reads_on = rw room
 
-    pub read_refused : (f : Fault) (p : FaultyPart) → loadeds.Refused f p ≡ loaded text (reading text) → ReadAs text C (Refused f) C
-    read_refused f p = go (reading text) reads_on
+    pub read_refused : (l : FaultyLine) → Err l ≡ loaded text (reading text) → ReadAs text C (Err l.fault) C
+    read_refused l = go (reading text) reads_on
       where
-        go : (o : Reading) → read_into C text ≡ o → loadeds.Refused f p ≡ loaded text o → ReadAs text C (Refused f) C
+        go : (o : Reading) → read_into C text ≡ o → Err l ≡ loaded text o → ReadAs text C (Err l.fault) C
         go (accepted R) r e = let z : ◌≡◌ {A = ℕ} 0 1 = cc in absurd (omega arith)
-        go (refused g) r e = let a : f ≡ g = cc in record { result = rw (r, a); cells = rw r }
+        go (refused g) r e = let a : l ≡ record { fault = g; part = record { start = (part_of text (refused g)).start; size = (part_of text (refused g)).size } } = cc in record { result = rw (r, a); cells = rw r }
 
     pub read_accepted : (c : Counts) (D : Rows)
-        → loadeds.Accepted c ≡ loaded text (reading text)
+        → Ok c ≡ loaded text (reading text)
         → ((R : Records) → reading text ≡ accepted R → D ≡ rows_with R C)
-        → ReadAs text C (Accepted c) D
+        → ReadAs text C (Ok c) D
     read_accepted c D e cells = go (reading text) refl e
       where
-        go : (o : Reading) → reading text ≡ o → loadeds.Accepted c ≡ loaded text o → ReadAs text C (Accepted c) D
+        go : (o : Reading) → reading text ≡ o → Ok c ≡ loaded text o → ReadAs text C (Ok c) D
         go (accepted R) r e =
             let a : c ≡ counts_of R = cc in
             record { result = rw (reads_on, r, a); cells = rw (reads_on, r) (cells R r) }
@@ -122,21 +120,21 @@ module _ (text : List ℕ) (terms propositions questions : ℕ) where
     unfolding part_at_fault
     part_on r p = rw room p
 
-    pub part_accepted : (c : Counts) → loadeds.Accepted c ≡ loaded text (reading text) → PartAt text (record { start = 0; size = 0 }) (part_at_fault text terms propositions questions)
+    pub part_accepted : (c : Counts) → Ok c ≡ loaded text (reading text) → PartAt text (record { start = 0; size = 0 }) (part_at_fault text terms propositions questions)
     part_accepted c e = part_on _ (go (reading text) e)
       where
-        go : (o : Reading) → loadeds.Accepted c ≡ loaded text o → PartAt text (record { start = 0; size = 0 }) (part_of text o)
+        go : (o : Reading) → Ok c ≡ loaded text o → PartAt text (record { start = 0; size = 0 }) (part_of text o)
         go (accepted R) e = record { start = refl; size = refl; within = omega arith }
         go (refused g) e = let z : ◌≡◌ {A = ℕ} 0 1 = cc in absurd (omega arith)
 
-    pub part_refused : (f : Fault) (p : FaultyPart)
-        → loadeds.Refused f p ≡ loaded text (reading text)
-        → p.start + p.size ≤ length text
-        → PartAt text p (part_at_fault text terms propositions questions)
-    part_refused f p e within = part_on p (go (reading text) e)
+    pub part_refused : (l : FaultyLine)
+        → Err l ≡ loaded text (reading text)
+        → l.part.start + l.part.size ≤ length text
+        → PartAt text l.part (part_at_fault text terms propositions questions)
+    part_refused l e within = part_on l.part (go (reading text) e)
       where
-        go : (o : Reading) → loadeds.Refused f p ≡ loaded text o → PartAt text p (part_of text o)
+        go : (o : Reading) → Err l ≡ loaded text o → PartAt text l.part (part_of text o)
         go (accepted R) e = let z : ◌≡◌ {A = ℕ} 0 1 = cc in absurd (omega arith)
         go (refused g) e =
-            let a : p ≡ record { start = (part_of text (refused g)).start; size = (part_of text (refused g)).size } = cc in
-            record { start = ap (λ (q : FaultyPart). q.start) a; size = ap (λ (q : FaultyPart). q.size) a; within = within }
+            let a : l ≡ record { fault = g; part = record { start = (part_of text (refused g)).start; size = (part_of text (refused g)).size } } = cc in
+            record { start = ap (λ (m : FaultyLine). m.part.start) a; size = ap (λ (m : FaultyLine). m.part.size) a; within = within }

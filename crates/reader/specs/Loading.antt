@@ -1,5 +1,6 @@
 -- Lines taken one after another into the rows.
-use Rattle.std.specs.Prelude.{ℕ, ◌+◌, ◌<◌, ◌≤◌, ◌≡◌, refl, true, List, length}
+use Rattle.std.specs.Prelude.{ℕ, ◌+◌, ◌<◌, ◌≤◌, ◌≡◌, refl, true, List, length, Result, Ok, Err, Some}
+use Rattle.std.specs.Prelude as rust
 use Rattle.std.proofs.Common.{ap, ◌∙◌, arith}
 use Rattle.std.proofs.Math.Option.{Option, none, some}
 use Rattle.types.specs.declared.Refusal.{Refusal}
@@ -11,13 +12,15 @@ use Rattle.text.specs.Reading.{Records, Reading, accepted, refused, Step, refuse
 use Rattle.lines.specs.declared.Frame.{Frame}
 use Rattle.lines.specs.Meaning.{meaning}
 use Rattle.types.specs.declared.Counts.{Counts}
-use Rattle.frames.specs.declared.Taken.TheVariants as takens
-use Rattle.reader.specs.declared.Next.{Next}
-use Rattle.reader.specs.declared.Next.TheVariants as nexts
-use Rattle.reader.specs.declared.Loaded.{Loaded}
-use Rattle.reader.specs.declared.Loaded.TheVariants as loadeds
-use Rattle.frames.specs.Taking.{Counted, group_count, taken, frame_refusal}
+use Rattle.frames.specs.declared.ReadRows.{ReadRows}
+use Rattle.reader.specs.declared.FaultyLine.{FaultyLine}
+use Rattle.frames.specs.Taking.{Counted, group_count, frame_refusal}
 use Rattle.frames.specs.Rows.{Rows, RoomForMost, Stored, put, rows_with, put_rows_with, counted_more}
+
+-- an answer with the counts that are left
+abbrev pub counted : {E : Type 0} → Result Unit E → ReadRows → Result Counts E
+counted (Ok u) t = Ok t.counts
+counted (Err e) t = Err e
 
 -- an accepted line: the records with it, counted, and in front of the rows C
 pub record Went (C : Rows) (s : Step) (c : Counts) (D : Rows) : Type 0 where
@@ -27,57 +30,57 @@ pub record Went (C : Rows) (s : Step) (c : Counts) (D : Rows) : Type 0 where
   pub cells : D ≡ rows_with records C
 
 -- what a line's step leaves in the rows D
-abbrev pub After : Rows → Step → Next → Rows → Type 0
-After C s (nexts.Refused x) D = s ≡ refuse x
-After C s (nexts.Accepted c) D = Went C s c D
+abbrev pub After : Rows → Step → Result Counts Refusal → Rows → Type 0
+After C s (Err x) D = s ≡ refuse x
+After C s (Ok c) D = Went C s c D
 
 -- what a line leaves after any records, counted, in front of any rows C
-abbrev pub Lined : Line → Counts → Rows → Next → Rows → Type 0
+abbrev pub Lined : Line → Counts → Rows → Result Counts Refusal → Rows → Type 0
 Lined l c E r D = (R : Records) (C : Rows) → RoomForMost C → Counted c R → E ≡ rows_with R C → After C (step R l) r D
 
 abbrev pub counts_of : Records → Counts
 counts_of R = record { terms = length R.terms; propositions = length R.propositions; questions = length R.questions }
 
 -- the answer for a whole text
-abbrev pub loaded : List ℕ → Reading → Loaded
-loaded text (accepted R) = loadeds.Accepted (counts_of R)
-loaded text (refused f) = loadeds.Refused f (record { start = (part_of text (refused f)).start; size = (part_of text (refused f)).size })
+abbrev pub loaded : List ℕ → Reading → Result Counts FaultyLine
+loaded text (accepted R) = Ok (counts_of R)
+loaded text (refused f) = Err (record { fault = f; part = record { start = (part_of text (refused f)).start; size = (part_of text (refused f)).size } })
 
 -- a refused line ends within the text
-abbrev Within : List ℕ → Loaded → Type 0
-Within text (loadeds.Accepted c) = Unit
-Within text (loadeds.Refused f p) = p.start + p.size ≤ length text
+abbrev Within : List ℕ → Result Counts FaultyLine → Type 0
+Within text (Ok c) = Unit
+Within text (Err l) = l.part.start + l.part.size ≤ length text
 
-pub record JudgedAs (text : List ℕ) (r : Loaded) : Type 0 where
+pub record JudgedAs (text : List ℕ) (r : Result Counts FaultyLine) : Type 0 where
   pub answer : r ≡ loaded text (reading text)
   pub within : Within text r
 
 -- what loading a text leaves in the rows D, where they were C
-pub record LoadedAs (text : List ℕ) (C : Rows) (r : Loaded) (D : Rows) : Type 0 where
+pub record LoadedAs (text : List ℕ) (C : Rows) (r : Result Counts FaultyLine) (D : Rows) : Type 0 where
   pub judged : JudgedAs text r
   pub cells : (R : Records) → reading text ≡ accepted R → D ≡ rows_with R C
 
 -- a judged line's step
-module _ (R : Records) (cs : List ℕ) (f : Frame) (judged : meaning f ≡ frame_of_bytes (bytes_of cs)) where
+module _ (R : Records) (cs : List ℕ) (f : rust.Option Frame) (judged : meaning f ≡ frame_of_bytes (bytes_of cs)) where
   step_judged : step R (record { characters = cs; ended = true }) ≡ step_frame R (meaning f)
   unfolding step frame_of
   step_judged = rw judged
 
-  pub step_refused : (x : Refusal) → takens.Refused x ≡ taken (frame_refusal R (meaning f)) → step R (record { characters = cs; ended = true }) ≡ refuse x
+  pub step_refused : (x : Refusal) → some x ≡ frame_refusal R (meaning f) → step R (record { characters = cs; ended = true }) ≡ refuse x
   step_refused x e = step_judged ∙ go (meaning f) (frame_refusal R (meaning f)) refl e
     where
-      go : (o : Option frames.Frame) (y : Option Refusal) → frame_refusal R o ≡ y → takens.Refused x ≡ taken y → step_frame R o ≡ refuse x
+      go : (o : Option frames.Frame) (y : Option Refusal) → frame_refusal R o ≡ y → some x ≡ y → step_frame R o ≡ refuse x
       go o none p q = let z : ◌≡◌ {A = ℕ} 0 1 = cc in absurd (omega arith)
       go none (some y) p q = cc
       go (some g) (some y) p q = let h : y ≡ x = cc in rw (p, h)
 
-  pub step_accepted : takens.Accepted ≡ taken (frame_refusal R (meaning f)) → (g : frames.Frame) × (meaning f ≡ some g) × (step R (record { characters = cs; ended = true }) ≡ go_on (with_frame R g))
+  pub step_accepted : ◌≡◌ {A = Option Refusal} none (frame_refusal R (meaning f)) → (g : frames.Frame) × (meaning f ≡ some g) × (step R (record { characters = cs; ended = true }) ≡ go_on (with_frame R g))
   step_accepted e = go (meaning f) (frame_refusal R (meaning f)) refl refl e
     where
       go : (o : Option frames.Frame) (y : Option Refusal)
           → meaning f ≡ o
           → frame_refusal R o ≡ y
-          → takens.Accepted ≡ taken y
+          → ◌≡◌ {A = Option Refusal} none y
           → (g : frames.Frame) × (meaning f ≡ some g) × (step R (record { characters = cs; ended = true }) ≡ go_on (with_frame R g))
       go o (some y) m p q = let z : ◌≡◌ {A = ℕ} 0 1 = cc in absurd (omega arith)
       go none none m p q = let z : ◌≡◌ {A = ℕ} 0 1 = cc in absurd (omega arith)
@@ -90,13 +93,13 @@ pub went : (R : Records) (C : Rows) (cs : List ℕ) (f : Frame) (c : Counts) (E 
     → RoomForMost C
     → Counted c R
     → E ≡ rows_with R C
-    → meaning f ≡ frame_of_bytes (bytes_of cs)
-    → takens.Accepted ≡ taken (frame_refusal R (meaning f))
-    → group_count c f < most
+    → meaning (Some f) ≡ frame_of_bytes (bytes_of cs)
+    → ◌≡◌ {A = Option Refusal} none (frame_refusal R (meaning (Some f)))
+    → group_count c (Some f) < most
     → Stored c f E r D
     → Went C (step R (record { characters = cs; ended = true })) r D
 went R C cs f c E r D room counts e judged accepts below stored =
-    let a = step_accepted R cs f judged accepts in
+    let a = step_accepted R cs (Some f) judged accepts in
     record {
       records = with_frame R a.0;
       stepped = a.2;

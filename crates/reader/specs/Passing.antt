@@ -1,5 +1,5 @@
 -- The solver does not refuse the tables that an accepted text leaves.
-use Rattle.std.specs.Prelude.{ℕ, ◌≤◌, ◌≡◌, refl, List, map, pos, length, get_or}
+use Rattle.std.specs.Prelude.{ℕ, ◌≤◌, ◌≡◌, refl, List, map, pos, length, get_or, Ok}
 use Rattle.std.proofs.Common.{◌∙◌, ap, arith}
 use Rattle.std.proofs.Math.Option.{none}
 use Rattle.std.proofs.lemmas.List.{length-map}
@@ -13,7 +13,6 @@ use Rattle.lists.specs.Overwrite.{overwrite}
 use Rattle.lists.proofs.Overwrite.{overwrite_covers}
 use Rattle.text.specs.Reading.{Records, Reading, accepted, refused, reading}
 use Rattle.text.proofs.Sound.{Sound, accepted_sound}
-use Rattle.types.specs.declared.ReadResult.TheVariants.{Accepted}
 use Rattle.types.specs.declared.Counts.{Counts}
 use Rattle.frames.specs.Rows.{Rows, rows_with}
 use Rattle.reader.specs.Loading.{counts_of}
@@ -64,11 +63,11 @@ pub record LeavesRecords (text : List ℕ) (C : Rows) (c : Counts) (D : Rows) : 
   pub reads : reading text ≡ accepted records
   pub tables : read_tables c D ≡ read_tables (counts_of records) (rows_with records C)
 
-module _ (text : List ℕ) (C : Rows) (c : Counts) (D : Rows) (read : ReadAs text C (Accepted c) D) where
+module _ (text : List ℕ) (C : Rows) (c : Counts) (D : Rows) (read : ReadAs text C (Ok c) D) where
   pub read_leaves : LeavesRecords text C c D
   read_leaves = go (read_into C text) refl read.result read.cells
     where
-      go : (o : Reading) → read_into C text ≡ o → Accepted c ≡ answer o → D ≡ left o C → LeavesRecords text C c D
+      go : (o : Reading) → read_into C text ≡ o → Ok c ≡ answer o → D ≡ left o C → LeavesRecords text C c D
       go (accepted R) r e cells =
           let is : c ≡ counts_of R = cc in
           record { records = R; reads = read_into_lem text C R r; tables = rw (is, cells) }

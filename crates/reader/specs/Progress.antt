@@ -1,7 +1,7 @@
 -- The lines of a text up to a place, taken into the rows.
 use Prim.Native.Nat.{ℕ, zero, suc, ◌+◌, ◌-◌, ◌<◌, ◌≤◌}
 use Rattle.std.proofs.Math.Path.{◌≡◌, ap, sym}
-use Rattle.std.specs.Prelude.{refl, true, List, [], ◌∷◌, take}
+use Rattle.std.specs.Prelude.{refl, true, List, [], ◌∷◌, take, Ok, Err}
 use Rattle.std.proofs.Common.{◌∙◌, length-drop, drop_of_length-le, length-take-le, drop-drop}
 use native.Mathlib.Omega.{arith}
 use Rattle.std.proofs.Math.Numerals.{add-one}
@@ -13,7 +13,6 @@ use Rattle.text.proofs.FrameLaws.{line_framed}
 use Rattle.text.specs.Reading.{Records, nothing, accepted, refused, refuse, go_on, step, read_lines, reading, line_start}
 use Rattle.text.proofs.Laws.{step_frame_lem}
 use Rattle.types.specs.declared.Counts.{Counts}
-use Rattle.reader.specs.declared.Loaded.TheVariants as loadeds
 use Rattle.lines.specs.LineEnds.{lines_of_nil, line_of, end_of_line, end_after, end_within, lines_of_at}
 use Rattle.frames.specs.Taking.{Counted}
 use Rattle.frames.specs.Rows.{Rows, rows_with, rows_with_nothing}
@@ -86,7 +85,7 @@ module _ (text : List ℕ) (C D : Rows) (c : Counts) (at k : ℕ) (P : Progress 
 
     pub progress_refused : (x : Refusal) (E : Rows)
         → step P.records (line_of text at (end_of_line text at)) ≡ refuse x
-        → LoadedAs text C (loadeds.Refused (record { refusal = x; place = k }) (record { start = at; size = end_of_line text at - at })) E
+        → LoadedAs text C (Err (record { fault = record { refusal = x; place = k }; part = record { start = at; size = end_of_line text at - at } })) E
     unfolding rest
     progress_refused x E e =
         let l = line_of text at (end_of_line text at) in
@@ -117,7 +116,7 @@ module _ (text : List ℕ) (C D : Rows) (c : Counts) (at k : ℕ) (P : Progress 
           few = omega (arith, P.few);
         }
 
-  pub progress_all : length text ≤ at → LoadedAs text C (loadeds.Accepted c) D
+  pub progress_all : length text ≤ at → LoadedAs text C (Ok c) D
   progress_all h =
       let d : drop at text ≡ [] = drop_of_length-le text h in
       let r : reading text ≡ accepted P.records =

@@ -8,10 +8,11 @@ ghost use Rattle.std.specs.Prelude.{◌≡◌};
 ghost use Rattle.frames.specs.Rows.{rows};
 ghost use Rattle.reader.specs.Answers.{short, ReadAs, part_at_fault, PartAt, HandedBack};
 
+use frames::ReadRows;
 use frames::copy::copy_rows;
-use load::{judge, load};
+use load::load;
 use tables::{PropositionRow, QuestionRow, TermRow};
-use types::{Counts, Fault, MOST, ReadResult, Refusal};
+use types::{Counts, Fault, MOST, Refusal};
 
 // Where a faulty line stands in a text.
 #[derive(Clone, Copy)]
@@ -20,18 +21,19 @@ pub struct FaultyPart {
     pub size: usize,
 }
 
-// What a line leaves: its refusal, or the counts with its record.
+// The fault of a text, and its line.
 #[derive(Clone, Copy)]
-pub(crate) enum Next {
-    Refused(Refusal),
-    Accepted(Counts),
+pub(crate) struct FaultyLine {
+    fault: Fault,
+    part: FaultyPart,
 }
 
-// What a whole text leaves: the counts of its records, or the first fault and its line.
-#[derive(Clone, Copy)]
-pub(crate) enum Loaded {
-    Accepted(Counts),
-    Refused(Fault, FaultyPart),
+impl From<FaultyLine> for Fault {
+    ghost from_gives = { λ line fault. fault ≡ line.fault };
+
+    fn from(line: FaultyLine) -> Fault {
+        line.fault
+    }
 }
 
 // A table has no room for the most records.
@@ -47,39 +49,28 @@ pub fn read(
     terms: &mut [TermRow],
     propositions: &mut [PropositionRow],
     questions: &mut [QuestionRow],
-) -> ReadResult
+) -> Result<Counts, Fault>
     ensures { ReadAs text.now (rows terms.old propositions.old questions.old) result
         (rows terms.new propositions.new questions.new) }
 {
     if short(terms.len(), propositions.len(), questions.len()) {
-        return ReadResult::Refused(Fault {
+        return Err(Fault {
             refusal: Refusal::TooShort,
             place: 0,
         });
     }
-    let mut own_terms = [[0u64; 3]; MOST];
-    let mut own_propositions = [[0u64; 4]; MOST];
-    let mut own_questions = [[0u64; 3]; MOST];
-    match load(
-        text,
-        &mut own_terms,
-        &mut own_propositions,
-        &mut own_questions,
-    ) {
-        Loaded::Refused(fault, _) => ReadResult::Refused(fault),
-        Loaded::Accepted(counts) => {
-            copy_rows(
-                counts,
-                &own_terms,
-                &own_propositions,
-                &own_questions,
-                terms,
-                propositions,
-                questions,
-            );
-            ReadResult::Accepted(counts)
-        }
-    }
+    let mut own = ReadRows::new();
+    load(text, &mut own)?;
+    copy_rows(
+        own.counts,
+        &own.terms,
+        &own.propositions,
+        &own.questions,
+        terms,
+        propositions,
+        questions,
+    );
+    Ok(own.counts)
 }
 
 // Where the faulty line of a text stands, without its LF, for tables with room for so many records; on success an empty part at the start.
@@ -90,9 +81,9 @@ pub fn faulty_part(text: &[u8], terms: usize, propositions: usize, questions: us
     if short(terms, propositions, questions) {
         return FaultyPart { start: 0, size: 0 };
     }
-    match judge(text) {
-        Loaded::Refused(_, part) => part,
-        Loaded::Accepted(_) => FaultyPart { start: 0, size: 0 },
+    match load(text, &mut ReadRows::new()) {
+        Err(line) => line.part,
+        Ok(()) => FaultyPart { start: 0, size: 0 },
     }
 }
 

@@ -8,12 +8,12 @@ use types::OFFSETS;
 pub(crate) fn in_range(z: i64) -> bool
     ensures { result ≡ offset_in_range z }
 {
-    (z < OFFSETS) & (-OFFSETS <= z)
+    (-OFFSETS..OFFSETS).contains(&z)
 }
 
 // Whether one of two numbers names none of n terms.
 pub(crate) fn unlisted(n: usize, left: u64, right: u64) -> bool
     ensures { result ≡ (leb n left || leb n right) }
 {
-    (n <= left as usize) | (n <= right as usize)
+    n <= left as usize || n <= right as usize
 }

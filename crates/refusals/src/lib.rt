@@ -2,6 +2,7 @@
 
 #![tactic(auto)]
 
+mod each;
 mod fields;
 mod propositions;
 mod questions;
@@ -15,7 +16,7 @@ use propositions::check_propositions;
 use questions::check_questions;
 use tables::{PropositionRow, QuestionRow, TermRow};
 use terms::check_terms;
-use types::{Acceptance, MOST, Refusal, refuse};
+use types::{Fault, MOST, Refusal};
 
 // 1, 2, 3, then 8 for a table that has fewer rows than its count.
 pub fn check_sizes(
@@ -25,7 +26,7 @@ pub fn check_sizes(
     propositions: usize,
     q: usize,
     questions: usize,
-) -> Acceptance
+) -> Result<(), Fault>
     ensures { result ≡ acceptance (lengths_fault most n terms m propositions q questions) }
 {
     let many_terms = MOST < n;
@@ -33,18 +34,18 @@ pub fn check_sizes(
     let many_questions = MOST < q;
     let short = (terms < n) | ((propositions < m) | (questions < q));
     if many_terms {
-        return refuse(Refusal::TooManyTerms, MOST);
+        return Err(Refusal::TooManyTerms.at(MOST));
     }
     if many_propositions {
-        return refuse(Refusal::TooManyPropositions, MOST);
+        return Err(Refusal::TooManyPropositions.at(MOST));
     }
     if many_questions {
-        return refuse(Refusal::TooManyQuestions, MOST);
+        return Err(Refusal::TooManyQuestions.at(MOST));
     }
     if short {
-        return refuse(Refusal::TooShort, 0);
+        return Err(Refusal::TooShort.at(0));
     }
-    Acceptance::Accepted
+    Ok(())
 }
 
 // 9, 4 and 5 of the terms, then 9 and 6 of the propositions, then 9 and 7 of the questions.
@@ -52,18 +53,12 @@ pub fn check_records(
     terms: &[TermRow],
     propositions: &[PropositionRow],
     questions: &[QuestionRow],
-) -> Acceptance
+) -> Result<(), Fault>
     ensures { let T = terms.now in let P = propositions.now in let Q = questions.now in
         result ≡ acceptance (records_fault (tables_of (length T) T (length P) P (length Q) Q)) }
 {
-    let found = check_terms(terms);
-    let Acceptance::Accepted = found else {
-        return found;
-    };
-    let found = check_propositions(terms.len(), propositions);
-    let Acceptance::Accepted = found else {
-        return found;
-    };
+    check_terms(terms)?;
+    check_propositions(terms.len(), propositions)?;
     check_questions(terms.len(), questions)
 }
 
@@ -75,12 +70,9 @@ pub fn check_tables(
     propositions: &[PropositionRow],
     q: usize,
     questions: &[QuestionRow],
-) -> Acceptance
+) -> Result<(), Fault>
     ensures { result ≡ acceptance (tables_fault most (tables_of n terms.now m propositions.now q questions.now)) }
 {
-    let sizes = check_sizes(n, terms.len(), m, propositions.len(), q, questions.len());
-    let Acceptance::Accepted = sizes else {
-        return sizes;
-    };
+    check_sizes(n, terms.len(), m, propositions.len(), q, questions.len())?;
     check_records(&terms[..n], &propositions[..m], &questions[..q])
 }

@@ -8,48 +8,44 @@ ghost use Rattle.tables.specs.PropositionTable.{propositions_fault};
 ghost use Rattle.tables.specs.TableFaults.{acceptance};
 ghost use Rattle.refusals.specs.FirstFault.{judged};
 
+use crate::each::judge_each;
 use crate::fields::{in_range, unlisted};
 use offsets::is_same;
 use tables::{PropositionRow, proposition_at};
 use types::{
-    Acceptance, BLOCK_DISEQUALITY, DISEQUALITY, EQUALITY, PropositionNumber, PropositionRecord,
-    Refusal, refuse,
+    BLOCK_DISEQUALITY, DISEQUALITY, EQUALITY, Fault, PropositionNumber, PropositionRecord, Refusal,
 };
 
 // Whether a record stands for a proposition, whatever terms it names.
 fn is_proposition(r: PropositionRecord) -> bool
     ensures { result ≡ is_some (proposition_of r) }
 {
-    if (r.kind == EQUALITY) | (r.kind == DISEQUALITY) {
-        return in_range(r.offset);
+    match r.kind {
+        EQUALITY | DISEQUALITY => in_range(r.offset),
+        BLOCK_DISEQUALITY => is_same(r.offset, 0),
+        _ => false,
     }
-    (r.kind == BLOCK_DISEQUALITY) & is_same(r.offset, 0)
 }
 
 // Proposition p, with n terms listed: 9, then 6.
-fn judge_proposition(n: usize, r: PropositionRecord, p: PropositionNumber) -> Acceptance
+fn judge_proposition(n: usize, r: PropositionRecord, p: PropositionNumber) -> Result<(), Fault>
     ensures { result ≡ judged p.0 (proposition_fault n r) }
 {
-    let place = p.0;
     if !is_proposition(r) {
-        return refuse(Refusal::Malformed, place);
+        return Err(Refusal::Malformed.at(p.0));
     }
     if unlisted(n, r.left, r.right) {
-        return refuse(Refusal::PropositionTermNotListed, place);
+        return Err(Refusal::PropositionTermNotListed.at(p.0));
     }
-    Acceptance::Accepted
+    Ok(())
 }
 
 // The first refusal of the propositions, with n terms listed.
-pub(crate) fn check_propositions(n: usize, propositions: &[PropositionRow]) -> Acceptance
+pub(crate) fn check_propositions(n: usize, propositions: &[PropositionRow]) -> Result<(), Fault>
     ensures { result ≡ acceptance (propositions_fault n (length propositions.now) (proposition_in propositions.now)) }
 {
-    for i in 0..propositions.len() {
+    judge_each(propositions.len(), |i| {
         let p = PropositionNumber(i);
-        let found = judge_proposition(n, proposition_at(propositions, p), p);
-        let Acceptance::Accepted = found else {
-            return found;
-        };
-    }
-    Acceptance::Accepted
+        judge_proposition(n, proposition_at(propositions, p), p)
+    })
 }

@@ -6,34 +6,30 @@ ghost use Rattle.tables.specs.QuestionTable.{asked, questions_fault};
 ghost use Rattle.tables.specs.TableFaults.{acceptance};
 ghost use Rattle.refusals.specs.FirstFault.{judged};
 
+use crate::each::judge_each;
 use crate::fields::{in_range, unlisted};
 use tables::{QuestionRow, question_at};
-use types::{Acceptance, QuestionNumber, QuestionRecord, Refusal, refuse};
+use types::{Fault, QuestionNumber, QuestionRecord, Refusal};
 
 // Question q, with n terms listed: 9, then 7.
-fn judge_question(n: usize, r: QuestionRecord, q: QuestionNumber) -> Acceptance
+fn judge_question(n: usize, r: QuestionRecord, q: QuestionNumber) -> Result<(), Fault>
     ensures { result ≡ judged q.0 (question_fault n (asked r)) }
 {
-    let place = q.0;
     if !in_range(r.offset) {
-        return refuse(Refusal::Malformed, place);
+        return Err(Refusal::Malformed.at(q.0));
     }
     if unlisted(n, r.left, r.right) {
-        return refuse(Refusal::QuestionTermNotListed, place);
+        return Err(Refusal::QuestionTermNotListed.at(q.0));
     }
-    Acceptance::Accepted
+    Ok(())
 }
 
 // The first refusal of the questions, with n terms listed.
-pub(crate) fn check_questions(n: usize, questions: &[QuestionRow]) -> Acceptance
+pub(crate) fn check_questions(n: usize, questions: &[QuestionRow]) -> Result<(), Fault>
     ensures { result ≡ acceptance (questions_fault n (length questions.now) (question_in questions.now)) }
 {
-    for i in 0..questions.len() {
+    judge_each(questions.len(), |i| {
         let q = QuestionNumber(i);
-        let found = judge_question(n, question_at(questions, q), q);
-        let Acceptance::Accepted = found else {
-            return found;
-        };
-    }
-    Acceptance::Accepted
+        judge_question(n, question_at(questions, q), q)
+    })
 }

@@ -7,28 +7,31 @@
 mod keys;
 mod repeats;
 mod seen;
+mod setting;
 
-ghost use Rattle.std.specs.Prelude.{◌≡◌, true, ◌+◌, ◌*◌, ◌<◌, ◌≤◌, ◌/◌, ◌%◌, ◌^◌};
+ghost use Rattle.std.specs.Prelude.{◌≡◌, true, ◌+◌, ◌*◌, ◌<◌, ◌/◌, ◌%◌, ◌^◌};
 ghost use Rattle.pairbits.specs.Bits.{is_set};
-ghost use Rattle.distances.specs.Distances.{Indexed};
-ghost use Rattle.buckets.specs.Buckets.{Chains, key_of};
-ghost use Rattle.points.specs.Places.{Chained, class_slots, Column};
+ghost use Rattle.buckets.specs.Buckets.{key_of};
+ghost use Rattle.points.specs.Places.{Column};
 ghost use Rattle.marking.specs.Marks.{Room, zeros};
 ghost use Rattle.marking.specs.Known.{Uniform};
-ghost use Rattle.settling.specs.Settle.{Done, FreshIn, Kept, LookedAt, LookedPair, Ready, RowSwept, setting, Settling, Swept, Upto, Walked, With, WithHome, WordsSwept, WordSwept};
+ghost use Rattle.settling.specs.Settle.{Done, FreshIn, Kept, LookedAt, LookedPair, RowSwept, setting, Settling, Swept, Upto, Walked, With, WithHome, WordsSwept, WordSwept};
 ghost use Rattle.settling.specs.Keys.{Led};
+ghost use Rattle.settling.specs.Views.{IsIndexed, setting_of};
 
 use buckets::chain;
 use distances::building::build;
-use distances::{ENTRIES, STARTS};
+use distances::index::{DistanceIndex, IndexStore};
 use keys::fill_keys;
 use marking::bits::test_pair;
 use marking::distance::mark_distance;
-use marking::notes::{Notes, are_many, first_limit, forget_steps, is_over, pop};
+use marking::notes::{Notes, first_limit};
+use points::chained::ChainedPlaces;
 use points::chains::CLASSES;
-use points::places::{index, linked};
+use points::places::{Place, linked};
 use repeats::was_fired;
 use seen::fill_seen;
+use setting::Setting;
 use types::{MOST, TermNumber};
 use words::{common, contains, next_one, put, rest};
 
@@ -48,72 +51,57 @@ const TAKEN: usize = 0x4_0000;
 // Looks at x and y, which are different: the pairs that they give are set. Inside a class and between classes that are apart they give
 // nothing more.
 fn look(
-    n: usize,
+    setting: &Setting,
+    by_distance: &DistanceIndex,
     x: usize,
     y: usize,
-    points: &[u32],
-    heights: &[u64],
-    class_first: &[u16],
-    class_next: &[u16],
-    slot_first: &[u16],
-    slot_next: &[u16],
-    keys: &[u32],
-    reads: &[u32],
-    read_heights: &[u64],
-    apart: &[u8],
-    levels: &[u16],
-    from: &[u16],
-    order: &[u16],
-    starts: &[u32],
-    entries: &[u8],
     seen: &[u64],
     pairs: &mut [u8],
     notes: &mut Notes,
 )
-    requires chained { Chained n points.now heights.now class_first.now class_next.now slot_first.now slot_next.now × Indexed n points.now heights.now apart.now levels.now from.now order.now starts.now entries.now }
-    requires fact { let S = setting n points.now heights.now keys.now reads.now read_heights.now apart.now in Ready S × Kept S pairs.old seen.now }
-    requires x_lt_n { (x < n) × (y < n) }
-    requires x_bound { (key_of keys.now x < n) × (key_of keys.now y < n) }
-    requires y_value { is_set pairs.old (key_of keys.now x * n + key_of keys.now y) ≡ true }
-    ensures { LookedAt (setting n points.now heights.now keys.now reads.now read_heights.now apart.now) x y pairs.old pairs.new }
+    requires indexed { IsIndexed setting.now by_distance.now }
+    requires kept { Kept (setting_of setting.now) pairs.old seen.now }
+    requires x_lt_n { let T = setting.now in (x < T.places.n) × (y < T.places.n) }
+    requires x_bound { let T = setting.now in (key_of T.keys.now x < T.places.n) × (key_of T.keys.now y < T.places.n) }
+    requires y_value { let T = setting.now in is_set pairs.old (key_of T.keys.now x * T.places.n + key_of T.keys.now y) ≡ true }
+    ensures { LookedAt (setting_of setting.now) x y pairs.old pairs.new }
 {
-    let a = reads[x];
-    let b = reads[y];
+    let a = setting.reads[x];
+    let b = setting.reads[y];
     if a == b {
         return;
     }
-    if n <= index(a) {
+    if setting.places.n <= a as usize {
         return;
     }
-    if n <= index(b) {
+    if setting.places.n <= b as usize {
         return;
     }
-    if test_pair(n, TermNumber(index(a)), TermNumber(index(b)), apart) {
+    if test_pair(
+        setting.places.n,
+        TermNumber(a as usize),
+        TermNumber(b as usize),
+        setting.apart,
+    ) {
         return;
     }
-    let p = read_heights[x];
-    let q = read_heights[y];
-    if was_fired(n, x, y, keys, reads, read_heights, seen, notes) {
+    let p = setting.read_heights[x];
+    let q = setting.read_heights[y];
+    if was_fired(setting, x, y, seen, notes) {
         return;
     }
     mark_distance(
-        n,
-        a,
-        p,
-        b,
-        q,
-        points,
-        heights,
-        class_first,
-        class_next,
-        slot_first,
-        slot_next,
-        apart,
-        levels,
-        from,
-        order,
-        starts,
-        entries,
+        &setting.places,
+        Place {
+            class: a,
+            height: p,
+        },
+        Place {
+            class: b,
+            height: q,
+        },
+        setting.apart,
+        by_distance,
         pairs,
         notes,
     );
@@ -121,335 +109,133 @@ fn look(
 
 // Looks at x and each lead whose home is h.
 fn look_from(
-    n: usize,
+    setting: &Setting,
+    by_distance: &DistanceIndex,
     x: usize,
     h: usize,
-    lead_first: &[u16],
-    lead_next: &[u16],
-    points: &[u32],
-    heights: &[u64],
-    class_first: &[u16],
-    class_next: &[u16],
-    slot_first: &[u16],
-    slot_next: &[u16],
-    keys: &[u32],
-    reads: &[u32],
-    read_heights: &[u64],
-    apart: &[u8],
-    levels: &[u16],
-    from: &[u16],
-    order: &[u16],
-    starts: &[u32],
-    entries: &[u8],
     seen: &[u64],
     pairs: &mut [u8],
     notes: &mut Notes,
 )
-    requires chained { Chained n points.now heights.now class_first.now class_next.now slot_first.now slot_next.now × Indexed n points.now heights.now apart.now levels.now from.now order.now starts.now entries.now }
-    requires fact { let S = setting n points.now heights.now keys.now reads.now read_heights.now apart.now in Ready S × Kept S pairs.old seen.now }
-    requires x_lt_n { (x < n) × (h < n) }
-    requires x_bound { (key_of keys.now x < n) × (is_set pairs.old (key_of keys.now x * n + h) ≡ true) }
-    requires chains { Chains n class_slots keys.now lead_first.now lead_next.now }
-    ensures { let S = setting n points.now heights.now keys.now reads.now read_heights.now apart.now in Walked S h (With S x) pairs.old pairs.new }
+    requires indexed { IsIndexed setting.now by_distance.now }
+    requires kept { Kept (setting_of setting.now) pairs.old seen.now }
+    requires x_lt_n { let T = setting.now in (x < T.places.n) × (h < T.places.n) }
+    requires x_bound { let T = setting.now in (key_of T.keys.now x < T.places.n) × (is_set pairs.old (key_of T.keys.now x * T.places.n + h) ≡ true) }
+    ensures { let S = setting_of setting.now in Walked S h (With S x) pairs.old pairs.new }
 {
-    let mut y = linked(lead_first, h);
-    while y < n {
-        look(
-            n,
-            x,
-            y,
-            points,
-            heights,
-            class_first,
-            class_next,
-            slot_first,
-            slot_next,
-            keys,
-            reads,
-            read_heights,
-            apart,
-            levels,
-            from,
-            order,
-            starts,
-            entries,
-            seen,
-            pairs,
-            notes,
-        );
-        y = linked(lead_next, y);
+    let mut y = linked(setting.lead_first, h);
+    while y < setting.places.n {
+        look(setting, by_distance, x, y, seen, pairs, notes);
+        y = linked(setting.lead_next, y);
     }
 }
 
 // Looks at all leads whose homes are i and h, two homes whose bit is set.
 fn look_homes(
-    n: usize,
+    setting: &Setting,
+    by_distance: &DistanceIndex,
     i: usize,
     h: usize,
-    lead_first: &[u16],
-    lead_next: &[u16],
-    points: &[u32],
-    heights: &[u64],
-    class_first: &[u16],
-    class_next: &[u16],
-    slot_first: &[u16],
-    slot_next: &[u16],
-    keys: &[u32],
-    reads: &[u32],
-    read_heights: &[u64],
-    apart: &[u8],
-    levels: &[u16],
-    from: &[u16],
-    order: &[u16],
-    starts: &[u32],
-    entries: &[u8],
     seen: &[u64],
     pairs: &mut [u8],
     notes: &mut Notes,
 )
-    requires chained { Chained n points.now heights.now class_first.now class_next.now slot_first.now slot_next.now × Indexed n points.now heights.now apart.now levels.now from.now order.now starts.now entries.now }
-    requires fact { let S = setting n points.now heights.now keys.now reads.now read_heights.now apart.now in Ready S × Kept S pairs.old seen.now }
-    requires i_lt_n { (i < n) × ((h < n) × (is_set pairs.old (i * n + h) ≡ true)) }
-    requires chains { Chains n class_slots keys.now lead_first.now lead_next.now }
-    ensures { let S = setting n points.now heights.now keys.now reads.now read_heights.now apart.now in Walked S i (WithHome S h) pairs.old pairs.new }
+    requires indexed { IsIndexed setting.now by_distance.now }
+    requires kept { Kept (setting_of setting.now) pairs.old seen.now }
+    requires i_lt_n { let T = setting.now in (i < T.places.n) × ((h < T.places.n) × (is_set pairs.old (i * T.places.n + h) ≡ true)) }
+    ensures { let S = setting_of setting.now in Walked S i (WithHome S h) pairs.old pairs.new }
 {
-    let mut x = linked(lead_first, i);
-    while x < n {
-        look_from(
-            n,
-            x,
-            h,
-            lead_first,
-            lead_next,
-            points,
-            heights,
-            class_first,
-            class_next,
-            slot_first,
-            slot_next,
-            keys,
-            reads,
-            read_heights,
-            apart,
-            levels,
-            from,
-            order,
-            starts,
-            entries,
-            seen,
-            pairs,
-            notes,
-        );
-        x = linked(lead_next, x);
+    let mut x = linked(setting.lead_first, i);
+    while x < setting.places.n {
+        look_from(setting, by_distance, x, h, seen, pairs, notes);
+        x = linked(setting.lead_next, x);
     }
 }
 
 // Looks at the leads of a pair of homes, i * MOST + h, if its bit is set and that was not done; tells whether it was done now.
 fn look_pair(
-    n: usize,
+    setting: &Setting,
+    by_distance: &DistanceIndex,
     pair: usize,
-    lead_first: &[u16],
-    lead_next: &[u16],
-    points: &[u32],
-    heights: &[u64],
-    class_first: &[u16],
-    class_next: &[u16],
-    slot_first: &[u16],
-    slot_next: &[u16],
-    keys: &[u32],
-    reads: &[u32],
-    read_heights: &[u64],
-    apart: &[u8],
-    levels: &[u16],
-    from: &[u16],
-    order: &[u16],
-    starts: &[u32],
-    entries: &[u8],
     pairs: &mut [u8],
     seen: &mut [u64],
     notes: &mut Notes,
 ) -> bool
-    requires chained { Chained n points.now heights.now class_first.now class_next.now slot_first.now slot_next.now × Indexed n points.now heights.now apart.now levels.now from.now order.now starts.now entries.now }
-    requires fact { let S = setting n points.now heights.now keys.now reads.now read_heights.now apart.now in Ready S × Kept S pairs.old seen.old }
-    requires chains { Chains n class_slots keys.now lead_first.now lead_next.now }
-    ensures { LookedPair (setting n points.now heights.now keys.now reads.now read_heights.now apart.now) pair result pairs.old pairs.new seen.old seen.new }
+    requires indexed { IsIndexed setting.now by_distance.now }
+    requires kept { Kept (setting_of setting.now) pairs.old seen.old }
+    ensures { LookedPair (setting_of setting.now) pair result pairs.old pairs.new seen.old seen.new }
 {
     let i = pair / MOST;
     let h = pair % MOST;
-    if n <= i {
+    if setting.places.n <= i {
         return false;
     }
-    if n <= h {
+    if setting.places.n <= h {
         return false;
     }
     if contains(seen, pair) {
         return false;
     }
-    if !test_pair(n, TermNumber(i), TermNumber(h), pairs) {
+    if !test_pair(setting.places.n, TermNumber(i), TermNumber(h), pairs) {
         return false;
     }
-    look_homes(
-        n,
-        i,
-        h,
-        lead_first,
-        lead_next,
-        points,
-        heights,
-        class_first,
-        class_next,
-        slot_first,
-        slot_next,
-        keys,
-        reads,
-        read_heights,
-        apart,
-        levels,
-        from,
-        order,
-        starts,
-        entries,
-        seen,
-        pairs,
-        notes,
-    );
+    look_homes(setting, by_distance, i, h, seen, pairs, notes);
     put(seen, pair);
     true
 }
 
 // Looks at a pair of homes, then at those that were noted meanwhile, until more steps were taken than the limit.
 fn drain(
-    n: usize,
+    setting: &Setting,
+    by_distance: &DistanceIndex,
     limit: u32,
     start: usize,
-    lead_first: &[u16],
-    lead_next: &[u16],
-    points: &[u32],
-    heights: &[u64],
-    class_first: &[u16],
-    class_next: &[u16],
-    slot_first: &[u16],
-    slot_next: &[u16],
-    keys: &[u32],
-    reads: &[u32],
-    read_heights: &[u64],
-    apart: &[u8],
-    levels: &[u16],
-    from: &[u16],
-    order: &[u16],
-    starts: &[u32],
-    entries: &[u8],
     pairs: &mut [u8],
     seen: &mut [u64],
     notes: &mut Notes,
 ) -> bool
-    requires chained { Chained n points.now heights.now class_first.now class_next.now slot_first.now slot_next.now × Indexed n points.now heights.now apart.now levels.now from.now order.now starts.now entries.now }
-    requires fact { let S = setting n points.now heights.now keys.now reads.now read_heights.now apart.now in Ready S × Kept S pairs.old seen.old }
-    requires chains { Chains n class_slots keys.now lead_first.now lead_next.now }
-    ensures { LookedPair (setting n points.now heights.now keys.now reads.now read_heights.now apart.now) start result pairs.old pairs.new seen.old seen.new }
+    requires indexed { IsIndexed setting.now by_distance.now }
+    requires kept { Kept (setting_of setting.now) pairs.old seen.old }
+    ensures { LookedPair (setting_of setting.now) start result pairs.old pairs.new seen.old seen.new }
 {
     let mut changed = false;
     let mut pair = start;
     for _ in 0..TAKEN {
-        let more = look_pair(
-            n,
-            pair,
-            lead_first,
-            lead_next,
-            points,
-            heights,
-            class_first,
-            class_next,
-            slot_first,
-            slot_next,
-            keys,
-            reads,
-            read_heights,
-            apart,
-            levels,
-            from,
-            order,
-            starts,
-            entries,
-            pairs,
-            seen,
-            notes,
-        );
+        let more = look_pair(setting, by_distance, pair, pairs, seen, notes);
         changed = changed | more;
-        if is_over(limit, notes) {
+        if notes.is_over(limit) {
             return changed;
         }
-        pair = ordered(pop(notes));
-        if pair == 0 {
+        let Some(noted) = notes.pop() else {
             return changed;
-        }
+        };
+        pair = ordered(noted);
     }
     changed
 }
 
 // Looks at the pairs of homes that stand at the bits of a word, from pair `start` on.
 fn sweep_word(
-    n: usize,
+    setting: &Setting,
+    by_distance: &DistanceIndex,
     limit: u32,
     start: usize,
     word: u64,
-    lead_first: &[u16],
-    lead_next: &[u16],
-    points: &[u32],
-    heights: &[u64],
-    class_first: &[u16],
-    class_next: &[u16],
-    slot_first: &[u16],
-    slot_next: &[u16],
-    keys: &[u32],
-    reads: &[u32],
-    read_heights: &[u64],
-    apart: &[u8],
-    levels: &[u16],
-    from: &[u16],
-    order: &[u16],
-    starts: &[u32],
-    entries: &[u8],
     pairs: &mut [u8],
     seen: &mut [u64],
     notes: &mut Notes,
 ) -> bool
-    requires chained { Chained n points.now heights.now class_first.now class_next.now slot_first.now slot_next.now × Indexed n points.now heights.now apart.now levels.now from.now order.now starts.now entries.now }
-    requires fact { let S = setting n points.now heights.now keys.now reads.now read_heights.now apart.now in Ready S × Kept S pairs.old seen.old }
-    requires chains { Chains n class_slots keys.now lead_first.now lead_next.now }
+    requires indexed { IsIndexed setting.now by_distance.now }
+    requires kept { Kept (setting_of setting.now) pairs.old seen.old }
     requires start_bound { start + 64 < 2 ^ 64 }
-    ensures { WordSwept (setting n points.now heights.now keys.now reads.now read_heights.now apart.now) start word result pairs.old pairs.new seen.old seen.new }
+    ensures { WordSwept (setting_of setting.now) start word result pairs.old pairs.new seen.old seen.new }
 {
     let mut changed = false;
     let mut b = next_one(word, 0);
     while b < 64 {
-        let more = drain(
-            n,
-            limit,
-            start + b,
-            lead_first,
-            lead_next,
-            points,
-            heights,
-            class_first,
-            class_next,
-            slot_first,
-            slot_next,
-            keys,
-            reads,
-            read_heights,
-            apart,
-            levels,
-            from,
-            order,
-            starts,
-            entries,
-            pairs,
-            seen,
-            notes,
-        );
+        let more = drain(setting, by_distance, limit, start + b, pairs, seen, notes);
         changed = changed | more;
-        if is_over(limit, notes) {
+        if notes.is_over(limit) {
             return changed;
         }
         b = next_one(word, b + 1);
@@ -459,68 +245,35 @@ fn sweep_word(
 
 // Looks at home i with the fresh homes whose bits are set.
 fn sweep_words(
-    n: usize,
+    setting: &Setting,
+    by_distance: &DistanceIndex,
     limit: u32,
     i: usize,
     fresh: &[u64],
-    lead_first: &[u16],
-    lead_next: &[u16],
-    points: &[u32],
-    heights: &[u64],
-    class_first: &[u16],
-    class_next: &[u16],
-    slot_first: &[u16],
-    slot_next: &[u16],
-    keys: &[u32],
-    reads: &[u32],
-    read_heights: &[u64],
-    apart: &[u8],
-    levels: &[u16],
-    from: &[u16],
-    order: &[u16],
-    starts: &[u32],
-    entries: &[u8],
     pairs: &mut [u8],
     seen: &mut [u64],
     notes: &mut Notes,
 ) -> bool
-    requires chained { Chained n points.now heights.now class_first.now class_next.now slot_first.now slot_next.now × Indexed n points.now heights.now apart.now levels.now from.now order.now starts.now entries.now }
-    requires fact { let S = setting n points.now heights.now keys.now reads.now read_heights.now apart.now in Ready S × Kept S pairs.old seen.old }
-    requires chains { Chains n class_slots keys.now lead_first.now lead_next.now }
-    requires i_lt_n { (i < n) × FreshIn i fresh.now seen.old }
-    ensures { WordsSwept (setting n points.now heights.now keys.now reads.now read_heights.now apart.now) fresh.now i result pairs.old pairs.new seen.old seen.new }
+    requires indexed { IsIndexed setting.now by_distance.now }
+    requires kept { Kept (setting_of setting.now) pairs.old seen.old }
+    requires i_lt_n { (i < setting.now.places.n) × FreshIn i fresh.now seen.old }
+    ensures { WordsSwept (setting_of setting.now) fresh.now i result pairs.old pairs.new seen.old seen.new }
 {
     let mut changed = false;
     for w in 0..i / 64 + 1 {
-        let word = common(i * n, pairs, fresh, 64 * w);
+        let word = common(i * setting.places.n, pairs, fresh, 64 * w);
         let more = sweep_word(
-            n,
+            setting,
+            by_distance,
             limit,
             i * MOST + 64 * w,
             word,
-            lead_first,
-            lead_next,
-            points,
-            heights,
-            class_first,
-            class_next,
-            slot_first,
-            slot_next,
-            keys,
-            reads,
-            read_heights,
-            apart,
-            levels,
-            from,
-            order,
-            starts,
-            entries,
             pairs,
             seen,
             notes,
         );
         changed = changed | more;
-        if changed & is_over(limit, notes) {
+        if changed & notes.is_over(limit) {
             return true;
         }
     }
@@ -529,133 +282,49 @@ fn sweep_words(
 
 // Looks at home i with the homes of leads up to it, `hosts`, whose bits are set, and that were not looked at yet.
 fn sweep_row(
-    n: usize,
+    setting: &Setting,
+    by_distance: &DistanceIndex,
     limit: u32,
     i: usize,
     hosts: &[u64],
-    lead_first: &[u16],
-    lead_next: &[u16],
-    points: &[u32],
-    heights: &[u64],
-    class_first: &[u16],
-    class_next: &[u16],
-    slot_first: &[u16],
-    slot_next: &[u16],
-    keys: &[u32],
-    reads: &[u32],
-    read_heights: &[u64],
-    apart: &[u8],
-    levels: &[u16],
-    from: &[u16],
-    order: &[u16],
-    starts: &[u32],
-    entries: &[u8],
     pairs: &mut [u8],
     seen: &mut [u64],
     notes: &mut Notes,
 ) -> bool
-    requires chained { Chained n points.now heights.now class_first.now class_next.now slot_first.now slot_next.now × Indexed n points.now heights.now apart.now levels.now from.now order.now starts.now entries.now }
-    requires fact { let S = setting n points.now heights.now keys.now reads.now read_heights.now apart.now in Ready S × Kept S pairs.old seen.old }
-    requires chains { Chains n class_slots keys.now lead_first.now lead_next.now }
-    requires i_lt_n { (i < n) × Upto i hosts.now }
-    ensures { RowSwept (setting n points.now heights.now keys.now reads.now read_heights.now apart.now) hosts.now i result pairs.old pairs.new seen.old seen.new }
+    requires indexed { IsIndexed setting.now by_distance.now }
+    requires kept { Kept (setting_of setting.now) pairs.old seen.old }
+    requires i_lt_n { (i < setting.now.places.n) × Upto i hosts.now }
+    ensures { RowSwept (setting_of setting.now) hosts.now i result pairs.old pairs.new seen.old seen.new }
 {
     let mut fresh = [0u64; 8];
     rest(hosts, &seen[8 * i..8 * i + 8], &mut fresh);
-    sweep_words(
-        n,
-        limit,
-        i,
-        &fresh,
-        lead_first,
-        lead_next,
-        points,
-        heights,
-        class_first,
-        class_next,
-        slot_first,
-        slot_next,
-        keys,
-        reads,
-        read_heights,
-        apart,
-        levels,
-        from,
-        order,
-        starts,
-        entries,
-        pairs,
-        seen,
-        notes,
-    )
+    sweep_words(setting, by_distance, limit, i, &fresh, pairs, seen, notes)
 }
 
 // A look at all homes of leads, which are put into `hosts` one by one, unless something is set and more steps were taken than the limit.
 fn sweep_rows(
-    n: usize,
+    setting: &Setting,
+    by_distance: &DistanceIndex,
     limit: u32,
     hosts: &mut [u64],
-    lead_first: &[u16],
-    lead_next: &[u16],
-    points: &[u32],
-    heights: &[u64],
-    class_first: &[u16],
-    class_next: &[u16],
-    slot_first: &[u16],
-    slot_next: &[u16],
-    keys: &[u32],
-    reads: &[u32],
-    read_heights: &[u64],
-    apart: &[u8],
-    levels: &[u16],
-    from: &[u16],
-    order: &[u16],
-    starts: &[u32],
-    entries: &[u8],
     pairs: &mut [u8],
     seen: &mut [u64],
     notes: &mut Notes,
 ) -> bool
-    requires chained { Chained n points.now heights.now class_first.now class_next.now slot_first.now slot_next.now × Indexed n points.now heights.now apart.now levels.now from.now order.now starts.now entries.now }
-    requires fact { let S = setting n points.now heights.now keys.now reads.now read_heights.now apart.now in Ready S × Kept S pairs.old seen.old }
-    requires chains { Chains n class_slots keys.now lead_first.now lead_next.now }
+    requires indexed { IsIndexed setting.now by_distance.now }
+    requires kept { Kept (setting_of setting.now) pairs.old seen.old }
     requires hosts_value { hosts.old ≡ zeros 8 }
-    ensures { Swept (setting n points.now heights.now keys.now reads.now read_heights.now apart.now) result pairs.old pairs.new seen.old seen.new }
+    ensures { Swept (setting_of setting.now) result pairs.old pairs.new seen.old seen.new }
 {
     let mut changed = false;
-    for i in 0..n {
-        if n <= linked(lead_first, i) {
+    for i in 0..setting.places.n {
+        if setting.places.n <= linked(setting.lead_first, i) {
             continue;
         }
         put(hosts, i);
-        let more = sweep_row(
-            n,
-            limit,
-            i,
-            hosts,
-            lead_first,
-            lead_next,
-            points,
-            heights,
-            class_first,
-            class_next,
-            slot_first,
-            slot_next,
-            keys,
-            reads,
-            read_heights,
-            apart,
-            levels,
-            from,
-            order,
-            starts,
-            entries,
-            pairs,
-            seen,
-            notes,
-        );
+        let more = sweep_row(setting, by_distance, limit, i, hosts, pairs, seen, notes);
         changed = changed | more;
-        if changed & is_over(limit, notes) {
+        if changed & notes.is_over(limit) {
             return true;
         }
     }
@@ -664,322 +333,91 @@ fn sweep_rows(
 
 // The same. If it sets nothing, inverse dereferencing gives nothing more.
 fn sweep(
-    n: usize,
+    setting: &Setting,
+    by_distance: &DistanceIndex,
     limit: u32,
-    lead_first: &[u16],
-    lead_next: &[u16],
-    points: &[u32],
-    heights: &[u64],
-    class_first: &[u16],
-    class_next: &[u16],
-    slot_first: &[u16],
-    slot_next: &[u16],
-    keys: &[u32],
-    reads: &[u32],
-    read_heights: &[u64],
-    apart: &[u8],
-    levels: &[u16],
-    from: &[u16],
-    order: &[u16],
-    starts: &[u32],
-    entries: &[u8],
     pairs: &mut [u8],
     seen: &mut [u64],
     notes: &mut Notes,
 ) -> bool
-    requires chained { Chained n points.now heights.now class_first.now class_next.now slot_first.now slot_next.now × Indexed n points.now heights.now apart.now levels.now from.now order.now starts.now entries.now }
-    requires fact { let S = setting n points.now heights.now keys.now reads.now read_heights.now apart.now in Ready S × Kept S pairs.old seen.old }
-    requires chains { Chains n class_slots keys.now lead_first.now lead_next.now }
-    ensures { Swept (setting n points.now heights.now keys.now reads.now read_heights.now apart.now) result pairs.old pairs.new seen.old seen.new }
+    requires indexed { IsIndexed setting.now by_distance.now }
+    requires kept { Kept (setting_of setting.now) pairs.old seen.old }
+    ensures { Swept (setting_of setting.now) result pairs.old pairs.new seen.old seen.new }
 {
     let mut hosts = [0u64; 8];
-    sweep_rows(
-        n,
-        limit,
-        &mut hosts,
-        lead_first,
-        lead_next,
-        points,
-        heights,
-        class_first,
-        class_next,
-        slot_first,
-        slot_next,
-        keys,
-        reads,
-        read_heights,
-        apart,
-        levels,
-        from,
-        order,
-        starts,
-        entries,
-        pairs,
-        seen,
-        notes,
-    )
+    sweep_rows(setting, by_distance, limit, &mut hosts, pairs, seen, notes)
 }
 
 // Looks until one sets nothing.
 fn sweep_all(
-    n: usize,
-    lead_first: &[u16],
-    lead_next: &[u16],
-    points: &[u32],
-    heights: &[u64],
-    class_first: &[u16],
-    class_next: &[u16],
-    slot_first: &[u16],
-    slot_next: &[u16],
-    keys: &[u32],
-    reads: &[u32],
-    read_heights: &[u64],
-    apart: &[u8],
-    levels: &[u16],
-    from: &[u16],
-    order: &[u16],
-    starts: &[u32],
-    entries: &[u8],
+    setting: &Setting,
+    by_distance: &DistanceIndex,
     pairs: &mut [u8],
     seen: &mut [u64],
     notes: &mut Notes,
 )
-    requires chained { Chained n points.now heights.now class_first.now class_next.now slot_first.now slot_next.now × Indexed n points.now heights.now apart.now levels.now from.now order.now starts.now entries.now }
-    requires fact { let S = setting n points.now heights.now keys.now reads.now read_heights.now apart.now in Ready S × Kept S pairs.old seen.old }
-    requires chains { Chains n class_slots keys.now lead_first.now lead_next.now }
-    ensures { Settling (setting n points.now heights.now keys.now reads.now read_heights.now apart.now) pairs.old pairs.new }
+    requires indexed { IsIndexed setting.now by_distance.now }
+    requires kept { Kept (setting_of setting.now) pairs.old seen.old }
+    ensures { Settling (setting_of setting.now) pairs.old pairs.new }
 {
     let mut again = true;
     while again {
-        again = sweep(
-            n,
-            0xFFFF_FFFF,
-            lead_first,
-            lead_next,
-            points,
-            heights,
-            class_first,
-            class_next,
-            slot_first,
-            slot_next,
-            keys,
-            reads,
-            read_heights,
-            apart,
-            levels,
-            from,
-            order,
-            starts,
-            entries,
-            pairs,
-            seen,
-            notes,
-        );
+        again = sweep(setting, by_distance, 0xFFFF_FFFF, pairs, seen, notes);
     }
 }
 
 // The same with an index, for sets whose classes are large and whose distances are many.
-fn settle_indexed(
-    n: usize,
-    lead_first: &[u16],
-    lead_next: &[u16],
-    points: &[u32],
-    heights: &[u64],
-    class_first: &[u16],
-    class_next: &[u16],
-    slot_first: &[u16],
-    slot_next: &[u16],
-    keys: &[u32],
-    reads: &[u32],
-    read_heights: &[u64],
-    apart: &[u8],
-    pairs: &mut [u8],
-    seen: &mut [u64],
-    notes: &mut Notes,
-)
-    requires chained { Chained n points.now heights.now class_first.now class_next.now slot_first.now slot_next.now }
-    requires fact { let S = setting n points.now heights.now keys.now reads.now read_heights.now apart.now in Ready S × Kept S pairs.old seen.old }
-    requires chains { Chains n class_slots keys.now lead_first.now lead_next.now }
-    ensures { Settling (setting n points.now heights.now keys.now reads.now read_heights.now apart.now) pairs.old pairs.new }
+fn settle_indexed(setting: &Setting, pairs: &mut [u8], seen: &mut [u64], notes: &mut Notes)
+    requires { Kept (setting_of setting.now) pairs.old seen.old }
+    ensures { Settling (setting_of setting.now) pairs.old pairs.new }
 {
-    let mut levels = [0u16; CLASSES];
-    let mut from = [0u16; CLASSES];
-    let mut order = [0u16; MOST];
-    let mut starts = [0u32; STARTS];
-    let mut entries = [0u8; ENTRIES];
+    let mut store = IndexStore::EMPTY;
     build(
-        n,
-        points,
-        heights,
-        reads,
-        apart,
-        &mut levels,
-        &mut from,
-        &mut order,
-        &mut starts,
-        &mut entries,
+        setting.places.n,
+        setting.places.classes,
+        setting.places.heights,
+        setting.reads,
+        setting.apart,
+        &mut store,
     );
-    sweep_all(
-        n,
-        lead_first,
-        lead_next,
-        points,
-        heights,
-        class_first,
-        class_next,
-        slot_first,
-        slot_next,
-        keys,
-        reads,
-        read_heights,
-        apart,
-        &levels,
-        &from,
-        &order,
-        &starts,
-        &entries,
-        pairs,
-        seen,
-        notes,
-    );
+    let by_distance = store.index();
+    sweep_all(setting, &by_distance, pairs, seen, notes);
 }
 
 // Closes the table under inverse dereferencing. An index is built at once where two classes have many points; else a first look goes on
 // for about as many steps as an index takes to build, and if there is more to do then, one is built.
-fn settle_from(
-    n: usize,
-    lead_first: &[u16],
-    lead_next: &[u16],
-    points: &[u32],
-    heights: &[u64],
-    class_first: &[u16],
-    class_next: &[u16],
-    slot_first: &[u16],
-    slot_next: &[u16],
-    keys: &[u32],
-    reads: &[u32],
-    read_heights: &[u64],
-    apart: &[u8],
-    pairs: &mut [u8],
-    seen: &mut [u64],
-    notes: &mut Notes,
-)
-    requires chained { Chained n points.now heights.now class_first.now class_next.now slot_first.now slot_next.now }
-    requires fact { let S = setting n points.now heights.now keys.now reads.now read_heights.now apart.now in Ready S × Kept S pairs.old seen.old }
-    requires chains { Chains n class_slots keys.now lead_first.now lead_next.now }
-    ensures { Settling (setting n points.now heights.now keys.now reads.now read_heights.now apart.now) pairs.old pairs.new }
+fn settle_from(setting: &Setting, pairs: &mut [u8], seen: &mut [u64], notes: &mut Notes)
+    requires { Kept (setting_of setting.now) pairs.old seen.old }
+    ensures { Settling (setting_of setting.now) pairs.old pairs.new }
 {
-    if are_many(notes) {
-        settle_indexed(
-            n,
-            lead_first,
-            lead_next,
-            points,
-            heights,
-            class_first,
-            class_next,
-            slot_first,
-            slot_next,
-            keys,
-            reads,
-            read_heights,
-            apart,
-            pairs,
-            seen,
-            notes,
-        );
+    if notes.are_many() {
+        settle_indexed(setting, pairs, seen, notes);
         return;
     }
-    let levels = [0u16; CLASSES];
-    let from = [0u16; CLASSES];
-    let order = [0u16; 1];
-    let starts = [0u32; 1];
-    let entries = [0u8; 1];
-    let limit = first_limit(n);
-    forget_steps(notes);
-    if !sweep(
-        n,
-        limit,
-        lead_first,
-        lead_next,
-        points,
-        heights,
-        class_first,
-        class_next,
-        slot_first,
-        slot_next,
-        keys,
-        reads,
-        read_heights,
-        apart,
-        &levels,
-        &from,
-        &order,
-        &starts,
-        &entries,
-        pairs,
-        seen,
-        notes,
-    ) {
+    let by_distance = DistanceIndex {
+        levels: &[0; CLASSES],
+        from: &[0; CLASSES],
+        order: &[0; 1],
+        starts: &[0; 1],
+        entries: &[0; 1],
+    };
+    let limit = first_limit(setting.places.n);
+    notes.forget_steps();
+    if !sweep(setting, &by_distance, limit, pairs, seen, notes) {
         return;
     }
-    if is_over(limit, notes) {
-        settle_indexed(
-            n,
-            lead_first,
-            lead_next,
-            points,
-            heights,
-            class_first,
-            class_next,
-            slot_first,
-            slot_next,
-            keys,
-            reads,
-            read_heights,
-            apart,
-            pairs,
-            seen,
-            notes,
-        );
+    if notes.is_over(limit) {
+        settle_indexed(setting, pairs, seen, notes);
         return;
     }
-    sweep_all(
-        n,
-        lead_first,
-        lead_next,
-        points,
-        heights,
-        class_first,
-        class_next,
-        slot_first,
-        slot_next,
-        keys,
-        reads,
-        read_heights,
-        apart,
-        &levels,
-        &from,
-        &order,
-        &starts,
-        &entries,
-        pairs,
-        seen,
-        notes,
-    );
+    sweep_all(setting, &by_distance, pairs, seen, notes);
 }
 
 // The same, from homes and leads. Public for the crate `differences`.
 pub fn settle(
-    n: usize,
+    places: &ChainedPlaces,
     count: usize,
     leads: &[u16],
-    points: &[u32],
-    heights: &[u64],
-    class_first: &[u16],
-    class_next: &[u16],
-    slot_first: &[u16],
-    slot_next: &[u16],
     homes: &[u32],
     reads: &[u32],
     read_heights: &[u64],
@@ -987,18 +425,17 @@ pub fn settle(
     pairs: &mut [u8],
     notes: &mut Notes,
 )
-    requires chained { Chained n points.now heights.now class_first.now class_next.now slot_first.now slot_next.now }
-    requires column { Column n reads.now read_heights.now × (Led n count homes.now leads.now × (Room n apart.now × (Room n pairs.old × Uniform n points.now heights.now pairs.old))) }
-    ensures { Done (setting n points.now heights.now homes.now reads.now read_heights.now apart.now) count leads.now pairs.old pairs.new }
+    requires { let P = places.now in Column P.n reads.now read_heights.now × (Led P.n count homes.now leads.now × (Room P.n apart.now × (Room P.n pairs.old × Uniform P.n P.classes.now P.heights.now pairs.old))) }
+    ensures { let P = places.now in Done (setting P.n P.classes.now P.heights.now homes.now reads.now read_heights.now apart.now) count leads.now pairs.old pairs.new }
 {
     let mut keys = [512u32; MOST];
     let mut lead_first = [0u16; CLASSES];
     let mut lead_next = [0u16; MOST];
     let mut seen = [0u64; 4096];
-    fill_keys(n, count, leads, homes, &mut keys);
-    chain(n, &keys, &mut lead_first, &mut lead_next);
+    fill_keys(places.n, count, leads, homes, &mut keys);
+    chain(places.n, &keys, &mut lead_first, &mut lead_next);
     fill_seen(
-        n,
+        places.n,
         &keys,
         &lead_first,
         &lead_next,
@@ -1006,22 +443,14 @@ pub fn settle(
         read_heights,
         &mut seen,
     );
-    settle_from(
-        n,
-        &lead_first,
-        &lead_next,
-        points,
-        heights,
-        class_first,
-        class_next,
-        slot_first,
-        slot_next,
-        &keys,
+    let setting = Setting {
+        places: *places,
+        keys: &keys,
+        lead_first: &lead_first,
+        lead_next: &lead_next,
         reads,
         read_heights,
         apart,
-        pairs,
-        &mut seen,
-        notes,
-    );
+    };
+    settle_from(&setting, pairs, &mut seen, notes);
 }

@@ -1,5 +1,5 @@
 -- Demands 2 and 3 of what `solve` returns and leaves, and of what `verdict` returns.
-use Rattle.std.specs.Prelude.{ℕ, ◌+◌, ◌*◌, ◌-◌, ◌/◌, ◌<◌, ◌≤◌, ◌≡◌, ◌↔◌, ◌⊎◌, Bool, true, false, List, ℤ, pos, ◌+ℤ◌, ◌-ℤ◌, get_or, set, drop}
+use Rattle.std.specs.Prelude.{ℕ, ◌+◌, ◌*◌, ◌-◌, ◌/◌, ◌<◌, ◌≤◌, ◌≡◌, ◌↔◌, ◌⊎◌, Bool, true, false, List, ℤ, pos, ◌+ℤ◌, ◌-ℤ◌, get_or, set, drop, Result, Ok, Err}
 use Rattle.std.proofs.Math.Path.{refl, ap}
 use Rattle.std.proofs.Common.{sym, ◌∙◌, inl, inr, arith}
 use Rattle.std.proofs.Math.Option.{Option, none, some}
@@ -12,7 +12,6 @@ use Rattle.lists.specs.Overwrite.{overwrite}
 use Rattle.lists.proofs.Overwrite.{overwritten, take_overwrite, overwrite_keeps}
 use Rattle.types.specs.declared.Blame.{Blame}
 use Rattle.types.specs.declared.Fault.{Fault}
-use Rattle.types.specs.declared.Solved.{Solved}
 use Rattle.types.specs.declared.Verdict.{Verdict}
 use Rattle.types.specs.declared.Answer.{Answer}
 use Rattle.types.specs.Numbers.{number_of_answer}
@@ -38,7 +37,7 @@ use Rattle.tables.specs.TableFaults.{Tables, sizes_fault, records_fault, tables_
 use Rattle.tables.proofs.TableFaults.{unrefused}
 use Rattle.tables.specs.Memory.{Memory, call_fault, memory_fault, Beyond, memory_with}
 use Rattle.tables.proofs.Memory.{passed}
-use Rattle.solver.specs.Call.{terms_of, propositions_of, questions_of, length_terms, run, run_with, run_lengths, used, solved_by, returned, left, Answered, unasked, verdict_of}
+use Rattle.solver.specs.Call.{terms_of, propositions_of, questions_of, length_terms, run, run_with, run_lengths, used, returned, left, Answered, unasked, verdict_of}
 use Rattle.solver.specs.Verdict.{verdict_when}
 
 -- the set that accepted tables hold is well formed
@@ -48,37 +47,33 @@ tables_well_formed T a =
 
 -- what an accepted call returns
 pub contradiction_returned :
-    (T : Tables) (r : Solved) →
+    (T : Tables) (r : Result Verdict Fault) →
     r ≡ returned none T →
-    r ≡ Solved.Contradiction ↔ ((outcome (terms_of T) (propositions_of T) (questions_of T)).verdict ≡ Verdict.Contradiction)
+    r ≡ Ok Verdict.Contradiction ↔ ((outcome (terms_of T) (propositions_of T) (questions_of T)).verdict ≡ Verdict.Contradiction)
 unfolding run
-contradiction_returned T r is = (λ e. go (run T).verdict refl e, λ e. is ∙ ap solved_by e)
+contradiction_returned T r is = (λ e. go (run T).verdict refl e, λ e. is ∙ ap Ok e)
   where
-    go : (v : Verdict) → (run T).verdict ≡ v → r ≡ Solved.Contradiction → v ≡ Verdict.Contradiction
+    go : (v : Verdict) → (run T).verdict ≡ v → r ≡ Ok Verdict.Contradiction → v ≡ Verdict.Contradiction
     go Verdict.Contradiction v e = refl
-    go Verdict.Satisfiable v e = let s = is ∙ ap solved_by v in let z : ◌≡◌ {A = ℕ} 0 1 = cc in absurd (omega arith)
+    go Verdict.Satisfiable v e = let s = is ∙ ap Ok v in cc
 
-solved_same : (v w : Verdict) → solved_by v ≡ solved_by w → v ≡ w
-solved_same Verdict.Satisfiable Verdict.Satisfiable e = refl
-solved_same Verdict.Contradiction Verdict.Contradiction e = refl
-solved_same Verdict.Satisfiable Verdict.Contradiction e = cc
-solved_same Verdict.Contradiction Verdict.Satisfiable e = cc
+abbrev answer_of : Verdict → Result Verdict Fault
+answer_of v = Ok v
 
-solved_either : (v : Verdict) → (solved_by v ≡ Solved.Satisfiable) ⊎ (solved_by v ≡ Solved.Contradiction)
+solved_same : (v w : Verdict) → answer_of v ≡ answer_of w → v ≡ w
+solved_same v w e = cc
+
+solved_either : (v : Verdict) → (answer_of v ≡ Ok Verdict.Satisfiable) ⊎ (answer_of v ≡ Ok Verdict.Contradiction)
 solved_either Verdict.Satisfiable = inl refl
 solved_either Verdict.Contradiction = inr refl
 
 -- what a call returns is a refusal exactly where there is a fault
-returned_refused : (o : Option Fault) (T : Tables) (f : Fault) → returned o T ≡ Solved.Refused f ↔ (o ≡ some f)
-returned_refused none T f = (λ e. go (run T).verdict e, λ e. let z : ◌≡◌ {A = ℕ} 0 1 = cc in absurd (omega arith))
-  where
-    go : (v : Verdict) → solved_by v ≡ Solved.Refused f → none ≡ some f
-    go Verdict.Satisfiable e = let z : ◌≡◌ {A = ℕ} 0 1 = cc in absurd (omega arith)
-    go Verdict.Contradiction e = let z : ◌≡◌ {A = ℕ} 0 1 = cc in absurd (omega arith)
-returned_refused (some g) T f = (λ e. let h : g ≡ f = cc in ap some h, λ e. let h : g ≡ f = cc in ap Solved.Refused h)
+returned_refused : (o : Option Fault) (T : Tables) (f : Fault) → returned o T ≡ Err f ↔ (o ≡ some f)
+returned_refused none T f = (λ e. cc, λ e. cc)
+returned_refused (some g) T f = (λ e. let h : g ≡ f = cc in ap some h, λ e. let h : g ≡ f = cc in ap Err h)
 
 -- An accepted call of `solve` that is answered as promised: the result r, and the lent memory N afterwards.
-module _ (b : Blame) (T : Tables) (M N : Memory) (r : Solved) (A : Answered b T M N r) (accepted : call_fault T M ≡ none) where
+module _ (b : Blame) (T : Tables) (M N : Memory) (r : Result Verdict Fault) (A : Answered b T M N r) (accepted : call_fault T M ≡ none) where
   abbrev ts : List Term
   ts = terms_of T
 
@@ -98,10 +93,10 @@ module _ (b : Blame) (T : Tables) (M N : Memory) (r : Solved) (A : Answered b T 
   unfolding run
   run_is = refl
 
-  contradiction_iff : r ≡ Solved.Contradiction ↔ (O.verdict ≡ Verdict.Contradiction)
+  contradiction_iff : r ≡ Ok Verdict.Contradiction ↔ (O.verdict ≡ Verdict.Contradiction)
   contradiction_iff = contradiction_returned T r (rw accepted at A.returns)
 
-  satisfiable_verdict : r ≡ Solved.Satisfiable → O.verdict ≡ Verdict.Satisfiable
+  satisfiable_verdict : r ≡ Ok Verdict.Satisfiable → O.verdict ≡ Verdict.Satisfiable
   satisfiable_verdict e = go O.verdict refl
     where
       go : (v : Verdict) → O.verdict ≡ v → v ≡ Verdict.Satisfiable
@@ -171,7 +166,7 @@ module _ (b : Blame) (T : Tables) (M N : Memory) (r : Solved) (A : Answered b T 
   answer_is k h = rw answers_left (overwritten O.answers M.answers k 0 (omega (arith, lengths.answers)))
 
   -- the cells that the set needs hold its outcome
-  pub used_run : (v : Verdict) → r ≡ solved_by v → used T v N ≡ run_with b T
+  pub used_run : (v : Verdict) → r ≡ Ok v → used T v N ≡ run_with b T
   used_run v e =
       let l = run_lengths b T in
       let same : v ≡ (run T).verdict = solved_same v (run T).verdict (sym e ∙ rw accepted at A.returns) in
@@ -204,18 +199,18 @@ module _ (b : Blame) (T : Tables) (M N : Memory) (r : Solved) (A : Answered b T 
       }
 
   -- demand 2: contradiction exactly where one of the three conditions is derived
-  pub contradiction_derived : r ≡ Solved.Contradiction ↔ Contradiction ts (listed ts ps)
+  pub contradiction_derived : r ≡ Ok Verdict.Contradiction ↔ Contradiction ts (listed ts ps)
   contradiction_derived =
       let v = outcomes.verdict_exact ts ps qs wf in
       (λ e. v.0 (contradiction_iff.0 e), λ c. contradiction_iff.1 (v.1 c))
 
   -- demand 3: contradiction exactly where no assignment exists
-  pub contradiction_assignments : r ≡ Solved.Contradiction ↔ ((P : Placement) → Assignment ts (listed ts ps) P → ⊥)
+  pub contradiction_assignments : r ≡ Ok Verdict.Contradiction ↔ ((P : Placement) → Assignment ts (listed ts ps) P → ⊥)
   contradiction_assignments =
       let v = outcomes.verdict_assignments ts ps qs wf in
       (λ e. v.0 (contradiction_iff.0 e), λ c. contradiction_iff.1 (v.1 c))
 
-  module _ (sat : r ≡ Solved.Satisfiable) where
+  module _ (sat : r ≡ Ok Verdict.Satisfiable) where
     -- demand 2: a term's representative is the lowest-numbered term of its class, and its offset is that from it
     pub representative_derived : (t : ℕ) → t < length ts → Equal ts (listed ts ps) t (offset t) (representative t) × ((u : ℕ) (z : ℤ) → u < length ts → Equal ts (listed ts ps) t z u → representative t ≤ u)
     representative_derived t h = rw ((label_is t h).0, (label_is t h).1) (outcomes.representative_lowest ts ps qs wf (satisfiable_verdict sat) t h)
@@ -307,7 +302,7 @@ module _ (b : Blame) (T : Tables) (M N : Memory) (r : Solved) (A : Answered b T 
       pub pair_assignments : bit ≡ 1 → (P : Placement) → Assignment ts (listed ts ps) P → Differs P i (pos 0) j
       pair_assignments e = outcomes.pair_assignments ts ps qs wf (satisfiable_verdict sat) i j hi hj (sym pair_is ∙ e)
 
-  module _ (con : r ≡ Solved.Contradiction) where
+  module _ (con : r ≡ Ok Verdict.Contradiction) where
     is_con : O.verdict ≡ Verdict.Contradiction
     is_con = contradiction_iff.0 con
 
@@ -343,19 +338,19 @@ module _ (b : Blame) (T : Tables) (M N : Memory) (r : Solved) (A : Answered b T 
         blamed_unless = rw blame_left (outcomes.blamed_unless ts ps qs wf is_con (drop (length O.marks) M.marks) k h)
 
 -- a call is refused exactly where it has a fault, and then leaves the memory as it was
-module _ (b : Blame) (T : Tables) (M N : Memory) (r : Solved) (A : Answered b T M N r) where
-  pub refused_exactly : (f : Fault) → r ≡ Solved.Refused f ↔ (call_fault T M ≡ some f)
+module _ (b : Blame) (T : Tables) (M N : Memory) (r : Result Verdict Fault) (A : Answered b T M N r) where
+  pub refused_exactly : (f : Fault) → r ≡ Err f ↔ (call_fault T M ≡ some f)
   refused_exactly f = rw A.returns (returned_refused (call_fault T M) T f)
 
-  pub refused_unchanged : (f : Fault) → r ≡ Solved.Refused f → N ≡ M
+  pub refused_unchanged : (f : Fault) → r ≡ Err f → N ≡ M
   refused_unchanged f e = let c = (refused_exactly f).0 e in rw c at A.leaves
 
-  pub answered_else : call_fault T M ≡ none → (r ≡ Solved.Satisfiable) ⊎ (r ≡ Solved.Contradiction)
+  pub answered_else : call_fault T M ≡ none → (r ≡ Ok Verdict.Satisfiable) ⊎ (r ≡ Ok Verdict.Contradiction)
   answered_else e = rw (A.returns, e) (solved_either (run T).verdict)
 
 -- two calls on the same tables and memory, with blame and without, return the same and leave the same but for the marks
 pub forms_agree :
-    (a b : Blame) (T : Tables) (M N N' : Memory) (r r' : Solved) →
+    (a b : Blame) (T : Tables) (M N N' : Memory) (r r' : Result Verdict Fault) →
     Answered a T M N r →
     Answered b T M N' r' →
     (r ≡ r') × (N.representatives ≡ N'.representatives) × (N.offsets ≡ N'.offsets) × (N.pairs ≡ N'.pairs) × (N.answers ≡ N'.answers)
@@ -378,12 +373,12 @@ forms_agree a b T M N N' r r' A B = (
     same (some f) = (refl, refl, refl, refl)
 
 -- `solve` returns what `verdict` returns for the tables, accepted or refused, if the lent memory is enough
-pub solve_agrees : (b : Blame) (T : Tables) (M N : Memory) (r : Solved) → Answered b T M N r → memory_fault T M ≡ none → r ≡ verdict_of T
+pub solve_agrees : (b : Blame) (T : Tables) (M N : Memory) (r : Result Verdict Fault) → Answered b T M N r → memory_fault T M ≡ none → r ≡ verdict_of T
 unfolding call_fault tables_fault verdict_of
 solve_agrees b T M N r A room = rw room at A.returns
 
 -- and an accepted call with questions returns the verdict on the set without them
-module _ (b : Blame) (T : Tables) (M N : Memory) (r : Solved) (A : Answered b T M N r) (accepted : call_fault T M ≡ none) where
+module _ (b : Blame) (T : Tables) (M N : Memory) (r : Result Verdict Fault) (A : Answered b T M N r) (accepted : call_fault T M ≡ none) where
   abbrev U : Tables
   U = unasked T.terms.count T.terms.rows T.propositions.count T.propositions.rows
 
@@ -401,27 +396,27 @@ module _ (b : Blame) (T : Tables) (M N : Memory) (r : Solved) (A : Answered b T 
       })
       (record { terms = p.accepted.terms; propositions = p.accepted.propositions; questions = λ k h. absurd (omega arith) })
 
-  same : (b : Bool) → contradictory (terms_of T) (facts (terms_of T) (propositions_of T)) ≡ b → solved_by (run T).verdict ≡ solved_by (run U).verdict
+  same : (b : Bool) → contradictory (terms_of T) (facts (terms_of T) (propositions_of T)) ≡ b → (run T).verdict ≡ (run U).verdict
   same true e = sym (verdict_when T false e) ∙ verdict_when U false e
   same false e = sym (verdict_when T true e) ∙ verdict_when U true e
 
   pub solve_agrees_unasked : r ≡ verdict_of U
   unfolding verdict_of
-  solve_agrees_unasked = (rw accepted at A.returns) ∙ rw no_fault (same (contradictory (terms_of T) (facts (terms_of T) (propositions_of T))) refl)
+  solve_agrees_unasked = (rw accepted at A.returns) ∙ rw no_fault (ap Ok (same (contradictory (terms_of T) (facts (terms_of T) (propositions_of T))) refl))
 
 -- `verdict` refuses tables exactly where they have a fault, else they are satisfiable or contradictory
 module _ (T : Tables) where
-  pub verdict_refused_exactly : (f : Fault) → verdict_of T ≡ Solved.Refused f ↔ (tables_fault most T ≡ some f)
+  pub verdict_refused_exactly : (f : Fault) → verdict_of T ≡ Err f ↔ (tables_fault most T ≡ some f)
   unfolding verdict_of
   verdict_refused_exactly f = returned_refused (tables_fault most T) T f
 
-  pub verdict_else : tables_fault most T ≡ none → (verdict_of T ≡ Solved.Satisfiable) ⊎ (verdict_of T ≡ Solved.Contradiction)
+  pub verdict_else : tables_fault most T ≡ none → (verdict_of T ≡ Ok Verdict.Satisfiable) ⊎ (verdict_of T ≡ Ok Verdict.Contradiction)
   unfolding verdict_of
   verdict_else e = rw e (solved_either (run T).verdict)
 
 -- demands 2 and 3 of what `verdict` returns, for accepted tables
-module _ (T : Tables) (r : Solved) (is : r ≡ verdict_of T) (accepted : tables_fault most T ≡ none) where
-  is_contradiction : r ≡ Solved.Contradiction ↔ ((outcome (terms_of T) (propositions_of T) (questions_of T)).verdict ≡ Verdict.Contradiction)
+module _ (T : Tables) (r : Result Verdict Fault) (is : r ≡ verdict_of T) (accepted : tables_fault most T ≡ none) where
+  is_contradiction : r ≡ Ok Verdict.Contradiction ↔ ((outcome (terms_of T) (propositions_of T) (questions_of T)).verdict ≡ Verdict.Contradiction)
   unfolding verdict_of
   is_contradiction = contradiction_returned T r (rw accepted at is)
 
@@ -430,13 +425,13 @@ module _ (T : Tables) (r : Solved) (is : r ≡ verdict_of T) (accepted : tables_
   well_formed = tables_well_formed T (faults.accepted T (or_else_none (sizes_fault most T) (records_fault T) accepted).1)
 
   -- demand 2: contradiction exactly where one of the three conditions is derived
-  pub verdict_derived : r ≡ Solved.Contradiction ↔ Contradiction (terms_of T) (listed (terms_of T) (propositions_of T))
+  pub verdict_derived : r ≡ Ok Verdict.Contradiction ↔ Contradiction (terms_of T) (listed (terms_of T) (propositions_of T))
   verdict_derived =
       let v = outcomes.verdict_exact (terms_of T) (propositions_of T) (questions_of T) well_formed in
       (λ e. v.0 (is_contradiction.0 e), λ c. is_contradiction.1 (v.1 c))
 
   -- demand 3: contradiction exactly where no assignment exists
-  pub verdict_assignments : r ≡ Solved.Contradiction ↔ ((P : Placement) → Assignment (terms_of T) (listed (terms_of T) (propositions_of T)) P → ⊥)
+  pub verdict_assignments : r ≡ Ok Verdict.Contradiction ↔ ((P : Placement) → Assignment (terms_of T) (listed (terms_of T) (propositions_of T)) P → ⊥)
   verdict_assignments =
       let v = outcomes.verdict_assignments (terms_of T) (propositions_of T) (questions_of T) well_formed in
       (λ e. v.0 (is_contradiction.0 e), λ c. is_contradiction.1 (v.1 c))

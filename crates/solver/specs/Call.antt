@@ -1,12 +1,10 @@
 -- A call of the solver: the set and the questions that its tables hold, what is returned, and every lent cell afterwards.
-use Rattle.std.specs.Prelude.{ℕ, ◌≡◌, List, [], length, take}
+use Rattle.std.specs.Prelude.{ℕ, ◌≡◌, List, [], length, take, Result, Ok, Err}
 use Rattle.std.proofs.Common.{◌∙◌, ap}
 use Rattle.std.proofs.Math.Option.{Option, none, some}
 use Rattle.types.specs.declared.Blame.{Blame}
 use Rattle.types.specs.declared.Fault.{Fault}
-use Rattle.types.specs.declared.Solved.{Solved}
 use Rattle.types.specs.declared.Verdict.{Verdict}
-use Rattle.types.specs.declared.Verdict.TheVariants.{Satisfiable, Contradiction}
 use Rattle.rules.specs.Terms.{Term, Proposition, Comparison}
 use Rattle.outcome.specs.PairBits.{pair_bytes}
 use Rattle.outcome.specs.Outcome.{Outcome, outcome, with_blame}
@@ -69,14 +67,10 @@ run_lengths b T =
       answers = l.answers ∙ length_questions T;
     }
 
-abbrev pub solved_by : Verdict → Solved
-solved_by Satisfiable = Solved.Satisfiable
-solved_by Contradiction = Solved.Contradiction
-
 -- what a call returns
-abbrev pub returned : Option Fault → Tables → Solved
-returned none T = solved_by (run T).verdict
-returned (some f) T = Solved.Refused f
+abbrev pub returned : Option Fault → Tables → Result Verdict Fault
+returned none T = Ok (run T).verdict
+returned (some f) T = Err f
 
 -- and every lent cell afterwards: as it was, if the call is refused
 abbrev pub left : Option Fault → Blame → Tables → Memory → Memory
@@ -84,7 +78,7 @@ left none b T M = memory_with (run_with b T) M
 left (some f) b T M = M
 
 -- the promise of `solve`, called with blame or without: of the memory M before the call and N after it
-pub record Answered (b : Blame) (T : Tables) (M N : Memory) (result : Solved) : Type 0 where
+pub record Answered (b : Blame) (T : Tables) (M N : Memory) (result : Result Verdict Fault) : Type 0 where
   pub returns : result ≡ returned (call_fault T M) T
   pub leaves : N ≡ left (call_fault T M) b T M
 
@@ -104,5 +98,5 @@ abbrev pub unasked : ℕ → List Row → ℕ → List Row → Tables
 unasked n terms m propositions = tables_of n terms m propositions 0 []
 
 -- what `verdict` returns: the first fault of the tables, or the verdict on the set that they hold
-unfoldable pub verdict_of : Tables → Solved
+unfoldable pub verdict_of : Tables → Result Verdict Fault
 verdict_of T = returned (tables_fault most T) T

@@ -7,7 +7,7 @@ use Rattle.std.proofs.lemmas.List.{length-map}
 use Rattle.lists.specs.Booleans.{same_truth}
 use Rattle.lists.specs.Items.{Item, item_map, get_d_item}
 use Rattle.types.specs.declared.Blame.{Blame}
-use Rattle.types.specs.declared.Solved.{Solved}
+use Rattle.types.specs.declared.Verdict.{Verdict}
 use Rattle.types.specs.Numbers.{number_of_answer}
 use Rattle.rules.specs.Terms.{Term, Proposition, Comparison, listed, WellFormed}
 use Rattle.rules.specs.Assignments.{Placement}
@@ -141,7 +141,7 @@ module _ (S : Set) (good : AcceptedSet S) where
         marks ≡ replicate S.propositions 0 →
         pairs ≡ pairs_by S reps offs →
         answers ≡ answers_by S reps offs (questions_in rows) →
-        Solves b S (questions_in rows) (record { representatives = reps; offsets = offs; marks = marks; pairs = pairs; answers = answers }) Solved.Satisfiable
+        Solves b S (questions_in rows) (record { representatives = reps; offsets = offs; marks = marks; pairs = pairs; answers = answers }) Verdict.Satisfiable
     unfolding satisfiable
     solves_satisfiable b rows accepted em ep ea =
         rw (outcome_satisfiable (questions_in rows))
@@ -191,7 +191,7 @@ module _ (S : Set) (good : AcceptedSet S) where
         marks ≡ marks_if b (marks_of_blame S) →
         pairs ≡ replicate (pair_bytes S.terms) 0 →
         answers ≡ replicate (length rows) 3 →
-        Solves b S (questions_in rows) (record { representatives = reps; offsets = offs; marks = marks; pairs = pairs; answers = answers }) Solved.Contradiction
+        Solves b S (questions_in rows) (record { representatives = reps; offsets = offs; marks = marks; pairs = pairs; answers = answers }) Verdict.Contradiction
     unfolding contradiction
     solves_contradiction b rows {reps0} {reps} {offs0} {offs} cr co K em ep ea =
         let n = K.long ∙ cr in

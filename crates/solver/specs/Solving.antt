@@ -1,7 +1,7 @@
 -- An accepted set in memory of just the cells that it needs, and what is left in them.
 use Rattle.std.specs.Prelude.{◌≤◌, ◌≡◌, List, length}
 use Rattle.types.specs.declared.Blame.{Blame}
-use Rattle.types.specs.declared.Solved.{Solved}
+use Rattle.types.specs.declared.Verdict.{Verdict}
 use Rattle.rules.specs.Terms.{Comparison}
 use Rattle.outcome.specs.PairBits.{pair_bytes}
 use Rattle.outcome.specs.Outcome.{Outcome, outcome, with_blame}
@@ -10,7 +10,6 @@ use Rattle.tables.specs.Rows.{Row, question_in}
 use Rattle.tables.specs.QuestionTable.{AcceptedQuestions}
 use Rattle.tables.specs.Sets.{Set, AcceptedSet, terms_in, propositions_in}
 use Rattle.tables.specs.Memory.{Memory}
-use Rattle.solver.specs.Call.{solved_by}
 
 -- accepted tables, and the memory for them
 pub record AcceptedCall (S : Set) (questions : List Row) (M : Memory) : Type 0 where
@@ -25,13 +24,13 @@ pub record AcceptedCall (S : Set) (questions : List Row) (M : Memory) : Type 0 w
   pub answers : length M.answers ≡ length questions
 
 -- the memory holds the outcome, and the result is its verdict
-pub record Leaves (O : Outcome) (N : Memory) (result : Solved) : Type 0 where
-  pub verdict : result ≡ solved_by O.verdict
+pub record Leaves (O : Outcome) (N : Memory) (result : Verdict) : Type 0 where
+  pub verdict : result ≡ O.verdict
   pub representatives : N.representatives ≡ O.representatives
   pub offsets : N.offsets ≡ O.offsets
   pub marks : N.marks ≡ O.marks
   pub pairs : N.pairs ≡ O.pairs
   pub answers : N.answers ≡ O.answers
 
-abbrev pub Solves : Blame → Set → List Comparison → Memory → Solved → Type 0
+abbrev pub Solves : Blame → Set → List Comparison → Memory → Verdict → Type 0
 Solves b S qs N result = Leaves (with_blame b (outcome (terms_in S) (propositions_in S) qs)) N result

@@ -1,12 +1,11 @@
 -- The promise of `verdict`: how it follows from the verdict on the rows that the counts say.
-use Rattle.std.specs.Prelude.{ℕ, ◌≡◌, Bool, true, false, not, List, length}
+use Rattle.std.specs.Prelude.{ℕ, ◌≡◌, Bool, true, false, not, List, length, Ok, Err}
 use Rattle.std.proofs.Math.Path.{refl, ap}
 use Rattle.std.proofs.Common.{◌∙◌, arith, le-ltb}
 use Rattle.std.proofs.Math.Option.{Option, none, some}
 use Rattle.lists.specs.Tabulate.{tabulate}
-use Rattle.types.specs.declared.Solved.{Solved}
 use Rattle.types.specs.declared.Fault.{Fault}
-use Rattle.types.specs.declared.Acceptance.TheVariants.{Accepted, Refused}
+use Rattle.types.specs.declared.Verdict.{Verdict}
 use Rattle.outcome.specs.Outcome.{Outcome, outcome, satisfiable, contradiction}
 use Rattle.closure.specs.Facts.{facts}
 use Rattle.closure.specs.Verdict.{contradictory}
@@ -18,27 +17,27 @@ use Rattle.tables.specs.QuestionTable.{questions_fault, questions_from}
 use Rattle.tables.specs.TableFaults.{Tables, tables_of, acceptance, lengths_fault, sizes_fault, records_fault, tables_fault, Sized}
 use Rattle.tables.proofs.TableFaults.{sized}
 use Rattle.refusals.specs.FirstFault.{accepts}
-use Rattle.solver.specs.Call.{terms_of, propositions_of, run, solved_by, returned, unasked, verdict_of}
+use Rattle.solver.specs.Call.{terms_of, propositions_of, run, returned, unasked, verdict_of}
 use Rattle.solver.specs.Counted.{counted_set, counted_terms, counted_propositions}
 use Rattle.blame.specs.Kept.{is_contradictory}
 
 -- the verdict on a consistent set, and on one that is not
-abbrev pub verdict_if : Bool → Solved
-verdict_if true = Solved.Satisfiable
-verdict_if false = Solved.Contradiction
+abbrev pub verdict_if : Bool → Verdict
+verdict_if true = Verdict.Satisfiable
+verdict_if false = Verdict.Contradiction
 
-pub verdict_when : (T : Tables) (b : Bool) → contradictory (terms_of T) (facts (terms_of T) (propositions_of T)) ≡ not b → verdict_if b ≡ solved_by (run T).verdict
+pub verdict_when : (T : Tables) (b : Bool) → contradictory (terms_of T) (facts (terms_of T) (propositions_of T)) ≡ not b → verdict_if b ≡ (run T).verdict
 unfolding run outcome satisfiable contradiction
 verdict_when T true e = rw e
 verdict_when T false e = rw e
 
 -- refused tables
-pub verdict_refused : (T : Tables) {f : Fault} → Refused f ≡ acceptance (tables_fault most T) → Solved.Refused f ≡ verdict_of T
+pub verdict_refused : (T : Tables) {f : Fault} → Err f ≡ acceptance (tables_fault most T) → Err f ≡ verdict_of T
 unfolding verdict_of
 verdict_refused T {f} e = go (tables_fault most T) e
   where
-    go : (o : Option Fault) → Refused f ≡ acceptance o → Solved.Refused f ≡ returned o T
-    go none e = let z : ◌≡◌ {A = ℕ} 0 1 = cc in absurd (omega arith)
+    go : (o : Option Fault) → Err f ≡ acceptance o → Err f ≡ returned o T
+    go none e = cc
     go (some g) e = let h : f ≡ g = cc in rw h
 
 -- without questions their rows do not matter
@@ -56,11 +55,11 @@ module _ (n : ℕ) (terms : List Row) (m : ℕ) (propositions rows : List Row) w
   unasked_verdict = ap (λ (o : Option Fault). returned o (tables_of n terms m propositions 0 rows)) unasked_fault ∙ go (tables_fault most (unasked n terms m propositions))
     where
       go : (o : Option Fault) → returned o (tables_of n terms m propositions 0 rows) ≡ returned o (unasked n terms m propositions)
-      go none = ap (λ (O : Outcome). solved_by O.verdict) unasked_run
+      go none = ap (λ (O : Outcome). Ok O.verdict) unasked_run
       go (some f) = refl
 
 -- accepted tables
-module _ (T : Tables) (e : Accepted ≡ acceptance (tables_fault most T)) where
+module _ (T : Tables) (e : Ok tt ≡ acceptance (tables_fault most T)) where
   no_fault : tables_fault most T ≡ none
   no_fault = accepts (tables_fault most T) e refl
 
@@ -72,6 +71,6 @@ module _ (T : Tables) (e : Accepted ≡ acceptance (tables_fault most T)) where
   unfolding tables_fault
   no_records_fault = (or_else_none (sizes_fault most T) (records_fault T) no_fault).1
 
-  pub verdict_decided : (b : Bool) → is_contradictory (counted_set T) ≡ not b → verdict_if b ≡ verdict_of T
+  pub verdict_decided : (b : Bool) → is_contradictory (counted_set T) ≡ not b → Ok (verdict_if b) ≡ verdict_of T
   unfolding verdict_of
-  verdict_decided b c = rw no_fault (verdict_when T b (rw (counted_terms T counts, counted_propositions T counts) at c))
+  verdict_decided b c = rw no_fault (ap Ok (verdict_when T b (rw (counted_terms T counts, counted_propositions T counts) at c)))

@@ -1,4 +1,5 @@
-// The solver: tables of rows in, every answer of paper 01 out.
+// The solver: tables of rows in, every answer of paper 01 out. The tables and the parts of the lent memory are parameters of their own,
+// as the C interface hands them over and as `consistency`, `columns` and `blame` take them: a struct would be taken apart at each call.
 
 #![tactic(auto)]
 
@@ -16,7 +17,7 @@ use consistency::is_consistent;
 use memory::{check_memory, fill};
 use refusals::{check_records, check_sizes, check_tables};
 use tables::{PropositionRow, QuestionRow, TermRow};
-use types::{Acceptance, Answer, Blame, MOST, Solved, answer_number};
+use types::{Answer, Blame, Fault, MOST, Verdict};
 use unionfind::reset;
 
 // Solves an accepted set in lent memory that has just the cells it needs.
@@ -30,7 +31,7 @@ fn solve_accepted(
     marks: &mut [u8],
     pairs: &mut [u8],
     answers: &mut [u8],
-) -> Solved
+) -> Verdict
     requires { let M = memory_of representatives.old offsets.old marks.old pairs.old answers.old in
         AcceptedCall (set_of terms.now propositions.now) questions.now M }
     ensures { let N = memory_of representatives.new offsets.new marks.new pairs.new answers.new in
@@ -48,13 +49,13 @@ fn solve_accepted(
             pairs,
             answers,
         );
-        return Solved::Satisfiable;
+        return Verdict::Satisfiable;
     }
     write_marks(blame, terms, propositions, marks, representatives, offsets);
     reset(representatives, offsets);
     fill(pairs, 0);
-    fill(answers, answer_number(Answer::Contradictory));
-    Solved::Contradiction
+    fill(answers, u8::from(Answer::Contradictory));
+    Verdict::Contradiction
 }
 
 // Solves the set and answers the questions that the first n, m and q rows hold, and leaves in the lent memory what paper 01 says; on
@@ -72,17 +73,14 @@ pub fn solve(
     marks: &mut [u8],
     pairs: &mut [u8],
     answers: &mut [u8],
-) -> Solved
+) -> Result<Verdict, Fault>
     ensures { let T = tables_of n terms.now m propositions.now q questions.now in
         let M = memory_of representatives.old offsets.old marks.old pairs.old answers.old in
         let N = memory_of representatives.new offsets.new marks.new pairs.new answers.new in
         Answered blame T M N result }
 {
-    let sizes = check_sizes(n, terms.len(), m, propositions.len(), q, questions.len());
-    if let Acceptance::Refused(fault) = sizes {
-        return Solved::Refused(fault);
-    }
-    let room = check_memory(
+    check_sizes(n, terms.len(), m, propositions.len(), q, questions.len())?;
+    check_memory(
         n,
         m,
         q,
@@ -91,16 +89,10 @@ pub fn solve(
         marks.len(),
         pairs.len(),
         answers.len(),
-    );
-    if let Acceptance::Refused(fault) = room {
-        return Solved::Refused(fault);
-    }
-    let records = check_records(&terms[..n], &propositions[..m], &questions[..q]);
-    if let Acceptance::Refused(fault) = records {
-        return Solved::Refused(fault);
-    }
+    )?;
+    check_records(&terms[..n], &propositions[..m], &questions[..q])?;
     let size = (n * n + 7) / 8;
-    solve_accepted(
+    Ok(solve_accepted(
         &terms[..n],
         &propositions[..m],
         &questions[..q],
@@ -110,18 +102,19 @@ pub fn solve(
         &mut marks[..m],
         &mut pairs[..size],
         &mut answers[..q],
-    )
+    ))
 }
 
 // The verdict on the set that the first n and m rows hold.
-pub fn verdict(n: usize, terms: &[TermRow], m: usize, propositions: &[PropositionRow]) -> Solved
+pub fn verdict(
+    n: usize,
+    terms: &[TermRow],
+    m: usize,
+    propositions: &[PropositionRow],
+) -> Result<Verdict, Fault>
     ensures { result ≡ verdict_of (unasked n terms.now m propositions.now) }
 {
-    let questions = [[0u64; 3]; 1];
-    let found = check_tables(n, terms, m, propositions, 0, &questions);
-    if let Acceptance::Refused(fault) = found {
-        return Solved::Refused(fault);
-    }
+    check_tables(n, terms, m, propositions, 0, &[])?;
     let marks = [1u8; MOST];
     let mut reps = [0u32; MOST];
     let mut offs = [0i64; MOST];
@@ -132,7 +125,7 @@ pub fn verdict(n: usize, terms: &[TermRow], m: usize, propositions: &[Propositio
         &mut reps[..n],
         &mut offs[..n],
     ) {
-        return Solved::Contradiction;
+        return Ok(Verdict::Contradiction);
     }
-    Solved::Satisfiable
+    Ok(Verdict::Satisfiable)
 }

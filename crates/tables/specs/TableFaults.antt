@@ -1,9 +1,8 @@
 -- The refusals of the three tables in their order: 1, 2, 3, then 8 for a table that has fewer rows than its count, then the records.
-use Rattle.std.specs.Prelude.{ℕ, ◌≤◌, ◌||◌, List, ltb, length}
+use Rattle.std.specs.Prelude.{ℕ, ◌≤◌, ◌||◌, List, ltb, length, Result, Ok, Err}
 use Rattle.std.proofs.Math.Option.{Option, none, some}
 use Rattle.types.specs.declared.Refusal.{Refusal}
 use Rattle.types.specs.declared.Refusal.TheVariants.{TooManyTerms, TooManyPropositions, TooManyQuestions, TooShort}
-use Rattle.types.specs.declared.Acceptance.{Acceptance}
 use Rattle.tables.specs.Rows.{Row, term_in, proposition_in, question_in}
 use Rattle.tables.specs.Refusals.{Fault, or_else, fault_if}
 use Rattle.tables.specs.TermTable.{terms_fault, AcceptedTerms}
@@ -11,9 +10,9 @@ use Rattle.tables.specs.PropositionTable.{propositions_fault, AcceptedPropositio
 use Rattle.tables.specs.QuestionTable.{questions_fault, AcceptedQuestions}
 
 -- what a test finds
-abbrev pub acceptance : Option Fault → Acceptance
-acceptance none = Acceptance.Accepted
-acceptance (some f) = Acceptance.Refused f
+abbrev pub acceptance : Option Fault → Result (Unit {0}) Fault
+acceptance none = Ok tt
+acceptance (some f) = Err f
 
 -- a table of rows, of which the first `count` are used
 pub record Table : Type 0 where

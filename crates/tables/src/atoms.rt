@@ -8,12 +8,12 @@ use types::{AUXILIARY, TermRecord, VARIABLE};
 pub fn is_atom(kind: u64) -> bool
     ensures { result ≡ (eqb kind variable_kind || eqb kind auxiliary_kind) }
 {
-    (kind == VARIABLE) | (kind == AUXILIARY)
+    matches!(kind, VARIABLE | AUXILIARY)
 }
 
 // Whether two records are of one atom.
 pub fn same_atom(a: TermRecord, b: TermRecord) -> bool
     ensures { result ≡ is_same_atom a b }
 {
-    is_atom(a.kind) & ((a.kind == b.kind) & (a.number == b.number))
+    is_atom(a.kind) && a.kind == b.kind && a.number == b.number
 }

@@ -1,5 +1,6 @@
 // The rows of the tables: fields of 64 bits, offsets in two's complement. The two functions of each table are the only ones that know
-// its layout: one reads a row into a record, one makes a row of a record. Public for the crates
+// its layout: one reads a row into a record, one makes a row of a record. No `From`: rows are arrays, as in the C interface, and the rows
+// of two tables are one type. Public for the crates
 // `lastlook`, `joins`, `congruence`, `consistency`, `placing`, `columns`, `refusals` and `frames`; the types of rows for all that hand them on.
 
 #![tactic(auto)]
@@ -27,11 +28,11 @@ pub fn term_at(terms: &[TermRow], t: TermNumber) -> TermRecord
     requires { t.0 < length terms.now }
     ensures { result ≡ term_in terms.now t.0 }
 {
-    let k = t.0;
+    let [kind, number, offset] = terms[t.0];
     TermRecord {
-        kind: terms[k][0],
-        number: terms[k][1],
-        offset: signed(terms[k][2]),
+        kind,
+        number,
+        offset: signed(offset),
     }
 }
 
@@ -45,12 +46,12 @@ pub fn proposition_at(propositions: &[PropositionRow], p: PropositionNumber) -> 
     requires { p.0 < length propositions.now }
     ensures { result ≡ proposition_in propositions.now p.0 }
 {
-    let k = p.0;
+    let [kind, left, offset, right] = propositions[p.0];
     PropositionRecord {
-        kind: propositions[k][0],
-        left: propositions[k][1],
-        offset: signed(propositions[k][2]),
-        right: propositions[k][3],
+        kind,
+        left,
+        offset: signed(offset),
+        right,
     }
 }
 
@@ -64,11 +65,11 @@ pub fn question_at(questions: &[QuestionRow], q: QuestionNumber) -> QuestionReco
     requires { q.0 < length questions.now }
     ensures { result ≡ question_in questions.now q.0 }
 {
-    let k = q.0;
+    let [left, offset, right] = questions[q.0];
     QuestionRecord {
-        left: questions[k][0],
-        offset: signed(questions[k][1]),
-        right: questions[k][2],
+        left,
+        offset: signed(offset),
+        right,
     }
 }
 

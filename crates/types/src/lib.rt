@@ -5,7 +5,8 @@
 ghost use Rattle.std.specs.Prelude.{◌≡◌};
 ghost use Rattle.types.specs.Numbers.{number_of_answer, number_of_refusal};
 
-// The kinds of records, as in the lines of hexadecimal.
+// The kinds of records, as in the lines of hexadecimal. No enum: a row of the C interface may hold any number, and `term_of` and
+// `proposition_of` (tables/Records) speak of all.
 pub const VARIABLE: u64 = 0x01;
 
 pub const AUXILIARY: u64 = 0x02;
@@ -33,14 +34,14 @@ pub const ATOMS: u64 = 65536;
 pub const OFFSETS: i64 = 2147483648;
 
 // The verdict on an accepted set.
-#[derive(Clone, Copy)]
+#[derive(Clone, Copy, Debug, PartialEq, Eq)]
 pub enum Verdict {
     Satisfiable,
     Contradiction,
 }
 
 // The answer to a question.
-#[derive(Clone, Copy)]
+#[derive(Clone, Copy, Debug, PartialEq, Eq)]
 pub enum Answer {
     Neither,
     Equal,
@@ -49,7 +50,7 @@ pub enum Answer {
 }
 
 // Why tables or a text are refused.
-#[derive(Clone, Copy)]
+#[derive(Clone, Copy, Debug, PartialEq, Eq)]
 pub enum Refusal {
     TooManyTerms,
     TooManyPropositions,
@@ -70,18 +71,11 @@ pub enum Refusal {
     GroupOrder,
 }
 
-// A refusal and its place.
-#[derive(Clone, Copy)]
+// A refusal and its place: the error of a call.
+#[derive(Clone, Copy, Debug, PartialEq, Eq)]
 pub struct Fault {
     pub refusal: Refusal,
     pub place: usize,
-}
-
-// What the tests of tables find: nothing, or the first fault.
-#[derive(Clone, Copy)]
-pub enum Acceptance {
-    Accepted,
-    Refused(Fault),
 }
 
 // A record of the table of terms. `number` is the atom's number, or the number of the term that a dereference names.
@@ -110,18 +104,10 @@ pub struct QuestionRecord {
 }
 
 // Whether a call of the solver asks for the blame of a contradiction.
-#[derive(Clone, Copy)]
+#[derive(Clone, Copy, Debug, PartialEq, Eq)]
 pub enum Blame {
     Asked,
     NotAsked,
-}
-
-// What a call of the solver returns: the verdict, or the fault of its tables or its lent memory.
-#[derive(Clone, Copy)]
-pub enum Solved {
-    Satisfiable,
-    Contradiction,
-    Refused(Fault),
 }
 
 // How many records of each table a text has.
@@ -132,15 +118,8 @@ pub struct Counts {
     pub questions: usize,
 }
 
-// What a call of the reader returns: the counts of what was read, or the fault, whose place is the number of its frame.
-#[derive(Clone, Copy)]
-pub enum ReadResult {
-    Accepted(Counts),
-    Refused(Fault),
-}
-
 // A number in the table of terms.
-#[derive(Clone, Copy)]
+#[derive(Clone, Copy, PartialEq, Eq)]
 pub struct TermNumber(pub usize);
 
 // A number in the table of propositions.
@@ -159,39 +138,45 @@ pub fn index(number: u64) -> usize
     number as usize
 }
 
-// A refusal at a place. Public for the crates `refusals` and `memory`.
-pub fn refuse(refusal: Refusal, place: usize) -> Acceptance
-    ensures { result ≡ Acceptance.Refused (record { refusal = refusal; place = place }) }
-{
-    Acceptance::Refused(Fault { refusal, place })
-}
-
-// The number of an answer. Public for the crates `columns` and `solver`.
-pub fn answer_number(a: Answer) -> u8
-    ensures { result ≡ number_of_answer a }
-{
-    match a {
-        Answer::Neither => 0,
-        Answer::Equal => 1,
-        Answer::Different => 2,
-        Answer::Contradictory => 3,
+impl Refusal {
+    pub fn at(self, place: usize) -> Fault
+        ensures { result ≡ record { refusal = self; place = place } }
+    {
+        Fault {
+            refusal: self,
+            place,
+        }
     }
 }
 
-// The number of a refusal. Public for the crates `numbers` and `writer`.
-pub fn refusal_number(r: Refusal) -> u8
-    ensures { result ≡ number_of_refusal r }
-{
-    match r {
-        Refusal::TooManyTerms => 1,
-        Refusal::TooManyPropositions => 2,
-        Refusal::TooManyQuestions => 3,
-        Refusal::InnerNotListed => 4,
-        Refusal::AtomListedTwice => 5,
-        Refusal::PropositionTermNotListed => 6,
-        Refusal::QuestionTermNotListed => 7,
-        Refusal::TooShort => 8,
-        Refusal::Malformed => 9,
-        Refusal::GroupOrder => 10,
+impl From<Answer> for u8 {
+    ghost from_gives = { λ a n. n ≡ number_of_answer a };
+
+    fn from(a: Answer) -> u8 {
+        match a {
+            Answer::Neither => 0,
+            Answer::Equal => 1,
+            Answer::Different => 2,
+            Answer::Contradictory => 3,
+        }
+    }
+}
+
+impl From<Refusal> for u8 {
+    ghost from_gives = { λ r n. n ≡ number_of_refusal r };
+
+    fn from(r: Refusal) -> u8 {
+        match r {
+            Refusal::TooManyTerms => 1,
+            Refusal::TooManyPropositions => 2,
+            Refusal::TooManyQuestions => 3,
+            Refusal::InnerNotListed => 4,
+            Refusal::AtomListedTwice => 5,
+            Refusal::PropositionTermNotListed => 6,
+            Refusal::QuestionTermNotListed => 7,
+            Refusal::TooShort => 8,
+            Refusal::Malformed => 9,
+            Refusal::GroupOrder => 10,
+        }
     }
 }

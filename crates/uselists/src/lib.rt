@@ -1,85 +1,50 @@
 // Use lists, where congruence closure looks for joins: for each class the dereferences over it, one for each address, those to look at
 // next, and a table from addresses to dereferences. Nothing here is relied on: what it says is tested before it is used, so it promises
-// no more than ranges. Public for the crates `joins` and `congruence`.
+// nothing, and cuts each number to the cells that there are. Public for the crates `joins` and `congruence`.
 
 #![tactic(auto)]
 
 ghost use Rattle.std.specs.Prelude.{◌^◌, ◌<◌};
 
 use offsets::bits;
-use std::num::{wrapping_add_u64, wrapping_sub_u64};
-use types::MOST;
+use types::{MOST, TermNumber};
 use unionfind::Root;
-
-// Notes of 16 bits: parts of MOST cells each, and from 4096 on the table of addresses.
-pub type Notes = [u16; 8192];
-
-// Notes of 64 bits: by class, where its addresses are counted from; from MOST on by dereference, its key in the table.
-pub type Keys = [u64; 1024];
-
-// The parts of the notes. By list of uses its first and its last use and how many it has; by use the next after it; by class one more
-// than the number of its list, 0 where that is its own; the uses to look at again, as a list by its first; the terms looked at.
-const FIRST: usize = 0;
-
-const LAST: usize = MOST;
-
-const SIZE: usize = 2 * MOST;
-
-const NEXT: usize = 3 * MOST;
-
-const LIST: usize = 4 * MOST;
-
-const WAITING: usize = 5 * MOST;
-
-const LOOKED: usize = 6 * MOST;
 
 const SLOTS: usize = 4096;
 
-fn wide(x: u16) -> usize
-    ensures { result < 2 ^ 16 }
-{
-    x as usize
+// Notes of 16 bits, so that the memory stays small: one more than a number, or 0 for none.
+#[derive(Drop)]
+pub struct UseLists {
+    // By list of uses its first use, its last, and how many it has. Only `last` and `size` hold the number itself.
+    first: [u16; MOST],
+    last: [u16; MOST],
+    size: [u16; MOST],
+    // By use the next after it.
+    next: [u16; MOST],
+    // By class its list, where that is not its own.
+    list: [u16; MOST],
+    // The first of the uses to look at again.
+    waiting: u16,
+    // How many terms were looked at.
+    looked: u16,
+    // The table of addresses: by slot a dereference, by dereference its key.
+    slots: [u16; SLOTS],
+    keys: [u64; MOST],
+    // By class where its addresses are counted from.
+    shifts: [u64; MOST],
 }
 
-// Cell i of a part.
-fn peek(notes: &Notes, part: usize, i: usize) -> usize
-    ensures { result < 2 ^ 16 }
-{
-    wide(notes[part % SLOTS + i % MOST])
+// A number below MOST as a note.
+fn note(x: usize) -> u16 {
+    (x % MOST + 1) as u16
 }
 
-fn poke(notes: &mut Notes, part: usize, i: usize, value: usize) {
-    notes[part % SLOTS + i % MOST] = (value % 65536) as u16;
-}
-
-// One more than the dereference in a slot of the table; 0 where it is empty.
-fn slot(notes: &Notes, s: usize) -> usize
-    ensures { result < 2 ^ 16 }
-{
-    wide(notes[SLOTS + s % SLOTS])
-}
-
-fn set_slot(notes: &mut Notes, s: usize, x: usize) {
-    notes[SLOTS + s % SLOTS] = (x % MOST + 1) as u16;
-}
-
-// The number of the list of a class.
-fn list_of(notes: &Notes, class: usize) -> usize {
-    let other = peek(notes, LIST, class);
-    if other != 0 {
-        return other - 1;
-    }
-    class
+fn noted(n: u16) -> Option<usize> {
+    usize::from(n).checked_sub(1)
 }
 
 // One more than the highest place in a class that a key tells.
 const PLACES: u64 = 0x40_0000_0000_0000;
-
-// A key of an address for the table: the list of its class, and its place in it.
-fn address_key(keys: &Keys, list: usize, at: Root) -> u64 {
-    let place = wrapping_sub_u64(bits(at.offset), keys[at.term.0 % MOST]);
-    (list % MOST) as u64 * PLACES + place % PLACES
-}
 
 // Numbers of 32 bits.
 const WORD: u64 = 0x1_0000_0000;
@@ -119,93 +84,115 @@ fn probe(key: u64, i: usize) -> usize {
 // The slots of the table that are tried for a key.
 const TRIES: usize = MOST;
 
-// One more than the dereference with this key in the table; 0 if there is none, and then x is put there.
-fn seek(notes: &mut Notes, keys: &mut Keys, key: u64, x: usize) -> usize {
-    for i in 0..TRIES {
-        let s = probe(key, i);
-        let found = slot(notes, s);
-        if found == 0 {
-            set_slot(notes, s, x);
-            keys[MOST + x % MOST] = key;
-            return 0;
+impl UseLists {
+    pub fn new() -> Self {
+        UseLists {
+            first: [0; MOST],
+            last: [0; MOST],
+            size: [0; MOST],
+            next: [0; MOST],
+            list: [0; MOST],
+            waiting: 0,
+            looked: 0,
+            slots: [0; SLOTS],
+            keys: [0; MOST],
+            shifts: [0; MOST],
         }
-        if keys[MOST + (found - 1) % MOST] == key {
-            return found;
+    }
+
+    // The number of the list of a class.
+    fn list_of(&self, class: usize) -> usize {
+        noted(self.list[class % MOST]).unwrap_or(class)
+    }
+
+    // A key of an address for the table: the list of its class, and its place in it.
+    fn address_key(&self, list: usize, at: Root) -> u64 {
+        let place = bits(at.offset).wrapping_sub(self.shifts[at.term.0 % MOST]);
+        (list % MOST) as u64 * PLACES + place % PLACES
+    }
+
+    // The dereference with this key in the table; if there is none, x is put there.
+    fn seek(&mut self, key: u64, x: usize) -> Option<usize> {
+        for i in 0..TRIES {
+            let s = probe(key, i) % SLOTS;
+            let Some(found) = noted(self.slots[s]) else {
+                self.slots[s] = note(x);
+                self.keys[x % MOST] = key;
+                return None;
+            };
+            if self.keys[found % MOST] == key {
+                return Some(found);
+            }
+        }
+        None
+    }
+
+    // Puts x first in a list of uses.
+    fn add_use(&mut self, list: usize, x: usize) {
+        let l = list % MOST;
+        let first = self.first[l];
+        if first == 0 {
+            self.last[l] = (x % MOST) as u16;
+        }
+        self.next[x % MOST] = first;
+        self.first[l] = note(x);
+        self.size[l] = self.size[l].wrapping_add(1);
+    }
+
+    // A dereference that is noted to read this address; where there is none, x is noted.
+    pub fn look_up(&mut self, at: Root, x: TermNumber) -> Option<TermNumber> {
+        let list = self.list_of(at.term.0);
+        let key = self.address_key(list, at);
+        let Some(found) = self.seek(key, x.0) else {
+            self.add_use(list, x.0);
+            return None;
+        };
+        Some(TermNumber(found))
+    }
+
+    // The term to look at next: a use that waits, or else the first term not looked at.
+    pub fn next_term(&mut self) -> TermNumber {
+        let Some(x) = noted(self.waiting) else {
+            let x = self.looked;
+            self.looked = x.wrapping_add(1);
+            return TermNumber(usize::from(x));
+        };
+        self.waiting = self.next[x % MOST];
+        TermNumber(x)
+    }
+
+    // The uses of a list are to be looked at again.
+    fn wait(&mut self, list: usize) {
+        let l = list % MOST;
+        let first = self.first[l];
+        if first != 0 {
+            self.next[usize::from(self.last[l]) % MOST] = self.waiting;
+            self.waiting = first;
         }
     }
-    0
-}
 
-// Puts x first in a list of uses.
-fn add_use(notes: &mut Notes, list: usize, x: usize) {
-    let first = peek(notes, FIRST, list);
-    let size = peek(notes, SIZE, list);
-    if first == 0 {
-        poke(notes, LAST, list, x);
+    // Joins the lists of two classes, where `from` is d + `to`: the longer is kept with its keys, the uses of the other wait.
+    fn join_lists(&mut self, from: usize, d: u64, to: usize) {
+        let moved = self.list_of(from);
+        let other = self.list_of(to);
+        if self.size[moved % MOST] <= self.size[other % MOST] {
+            self.wait(moved);
+            return;
+        }
+        self.wait(other);
+        self.list[to % MOST] = note(moved);
+        self.shifts[to % MOST] = self.shifts[from % MOST].wrapping_add(d);
     }
-    poke(notes, NEXT, x, first);
-    poke(notes, FIRST, list, x % MOST + 1);
-    poke(notes, SIZE, list, size + 1);
-}
 
-// One more than a dereference that is noted to read this address; 0 where there is none, and then x is noted.
-pub fn look_up(notes: &mut Notes, keys: &mut Keys, at: Root, x: usize) -> usize {
-    let list = list_of(notes, at.term.0);
-    let found = seek(notes, keys, address_key(keys, list, at), x);
-    if found == 0 {
-        add_use(notes, list, x);
-    }
-    found
-}
-
-// The term to look at next: a use that waits, or else the first term not looked at.
-pub fn next_term(notes: &mut Notes) -> usize {
-    let waiting = peek(notes, WAITING, 0);
-    if waiting == 0 {
-        let x = peek(notes, LOOKED, 0);
-        poke(notes, LOOKED, 0, x + 1);
-        return x;
-    }
-    let next = peek(notes, NEXT, waiting - 1);
-    poke(notes, WAITING, 0, next);
-    waiting - 1
-}
-
-// The uses of a list are to be looked at again.
-fn wait(notes: &mut Notes, list: usize) {
-    let first = peek(notes, FIRST, list);
-    if first == 0 {
-        return;
-    }
-    let last = peek(notes, LAST, list);
-    let waiting = peek(notes, WAITING, 0);
-    poke(notes, NEXT, last, waiting);
-    poke(notes, WAITING, 0, first);
-}
-
-// Joins the lists of two classes, where `from` is d + `to`: the longer is kept with its keys, the uses of the other wait.
-fn join_lists(notes: &mut Notes, keys: &mut Keys, from: usize, d: u64, to: usize) {
-    let moved = list_of(notes, from);
-    let other = list_of(notes, to);
-    if peek(notes, SIZE, moved) <= peek(notes, SIZE, other) {
-        wait(notes, moved);
-        return;
-    }
-    wait(notes, other);
-    poke(notes, LIST, to, moved % MOST + 1);
-    keys[to % MOST] = wrapping_add_u64(keys[from % MOST], d);
-}
-
-// Joins the uses of the classes of two terms that are equal, given their labels before the classes are joined.
-pub fn join_uses(notes: &mut Notes, keys: &mut Keys, a: Root, b: Root) {
-    let i = a.term.0;
-    let j = b.term.0;
-    if j < i {
-        let d = wrapping_sub_u64(bits(b.offset), bits(a.offset));
-        join_lists(notes, keys, i, d, j);
-    }
-    if i < j {
-        let d = wrapping_sub_u64(bits(a.offset), bits(b.offset));
-        join_lists(notes, keys, j, d, i);
+    // Joins the uses of the classes of two terms that are equal, given their labels before the classes are joined.
+    pub fn join_uses(&mut self, a: Root, b: Root) {
+        let i = a.term.0;
+        let j = b.term.0;
+        if j < i {
+            self.join_lists(i, bits(b.offset).wrapping_sub(bits(a.offset)), j);
+        }
+        if i < j {
+            self.join_lists(j, bits(a.offset).wrapping_sub(bits(b.offset)), i);
+        }
     }
 }

@@ -10,59 +10,31 @@ ghost use Rattle.words.specs.Words.{Common, in_mask, Lowest, NextOne, Ored, Put,
 
 use pairbits::{set_bit, test_bit};
 
-fn wide(byte: u8) -> u64
-    ensures { (result ≡ byte) × (result < 256) }
-{
-    byte as u64
-}
-
-// The number that a byte, and two, four, eight bytes from byte k on spell.
-
-fn one(bytes: &[u8], k: usize) -> u64
-    requires { k < length bytes.now }
-    ensures { Spells bytes.now (8 * k) 8 result }
-{
-    wide(bytes[k])
-}
-
-fn two(bytes: &[u8], k: usize) -> u64
-    requires { k + 2 ≤ length bytes.now }
-    ensures { Spells bytes.now (8 * k) 16 result }
-{
-    one(bytes, k + 1) * 0x100 + one(bytes, k)
-}
-
-fn four(bytes: &[u8], k: usize) -> u64
-    requires { k + 4 ≤ length bytes.now }
-    ensures { Spells bytes.now (8 * k) 32 result }
-{
-    two(bytes, k + 2) * 0x1_0000 + two(bytes, k)
-}
-
+// The number that the eight bytes from byte k on spell.
 fn eight(bytes: &[u8], k: usize) -> u64
     requires { k + 8 ≤ length bytes.now }
     ensures { Spells bytes.now (8 * k) 64 result }
 {
-    four(bytes, k + 4) * 0x1_0000_0000 + four(bytes, k)
+    let mut part = [0; 8];
+    part.copy_from_slice(&bytes[k..k + 8]);
+    u64::from_le_bytes(part)
 }
 
+// Bit i, 0 past the table.
 fn bit_at(bytes: &[u8], i: usize) -> u64
     ensures { result ≡ bit_value (is_set bytes.now i) }
 {
-    if bytes.len() <= i / 8 {
-        return 0;
-    }
-    if test_bit(bytes, i) { 1 } else { 0 }
+    u64::from(i / 8 < bytes.len() && test_bit(bytes, i))
 }
 
-// The word from bit `at` on, bit by bit: for the end of a table.
+// The word from bit `at` on, bit by bit: for the end of a table. A loop: a fold would take the bound of `at + b` into its closure.
 fn last_word(bytes: &[u8], at: usize) -> u64
     requires { at + 64 < 2 ^ 64 }
     ensures { Spells bytes.now at 64 result }
 {
     let mut word = 0;
     for b in 0..64 {
-        word = word | (bit_at(bytes, at + b) << b);
+        word |= bit_at(bytes, at + b) << b;
     }
     word
 }
@@ -81,38 +53,24 @@ pub fn word_at(bytes: &[u8], at: usize) -> u64
     if s == 0 {
         return low;
     }
-    (low >> s) | (one(bytes, k + 8) << (64 - s))
+    (low >> s) | (u64::from(bytes[k + 8]) << (64 - s))
 }
 
+// Sets the bits of x in byte k.
 fn or_byte(bytes: &mut [u8], k: usize, x: u64)
     requires { k < length bytes.old }
     ensures { Ored bytes.old (8 * k) 8 x bytes.new }
 {
-    bytes[k] = bytes[k] | ((x % 0x100) as u8);
+    bytes[k] |= (x % 0x100) as u8;
 }
 
-fn or_two(bytes: &mut [u8], k: usize, x: u64)
-    requires { k + 2 ≤ length bytes.old }
-    ensures { Ored bytes.old (8 * k) 16 x bytes.new }
-{
-    or_byte(bytes, k, x);
-    or_byte(bytes, k + 1, x >> 8);
-}
-
-fn or_four(bytes: &mut [u8], k: usize, x: u64)
-    requires { k + 4 ≤ length bytes.old }
-    ensures { Ored bytes.old (8 * k) 32 x bytes.new }
-{
-    or_two(bytes, k, x);
-    or_two(bytes, k + 2, x >> 16);
-}
-
+// Sets the bits of x in the eight bytes from byte k on.
 fn or_eight(bytes: &mut [u8], k: usize, x: u64)
     requires { k + 8 ≤ length bytes.old }
     ensures { Ored bytes.old (8 * k) 64 x bytes.new }
 {
-    or_four(bytes, k, x);
-    or_four(bytes, k + 4, x >> 32);
+    let word = eight(bytes, k) | x;
+    bytes[k..k + 8].copy_from_slice(&word.to_le_bytes());
 }
 
 // Sets bit `at` + b, if bit b of x is 1 and the table has it.
@@ -161,20 +119,11 @@ pub fn or_word(bytes: &mut [u8], at: usize, x: u64)
     or_byte(bytes, k + 8, x >> (64 - s));
 }
 
-fn word(x: u64) -> u64
-    ensures { (result ≡ x) × (result < 2 ^ 64) }
-{
-    x
-}
-
 // Word w of a mask, 0 past its end.
 fn mask_word(mask: &[u64], w: usize) -> u64
-    ensures { (result ≡ get_or mask.now w 0) × (result < 2 ^ 64) }
+    ensures { result ≡ get_or mask.now w 0 }
 {
-    if w < mask.len() {
-        return word(mask[w]);
-    }
-    0
+    mask.get(w).copied().unwrap_or(0)
 }
 
 // Puts j into a mask.
@@ -182,8 +131,7 @@ pub fn put(mask: &mut [u64], j: usize)
     requires { j / 64 < length mask.old }
     ensures { Put mask.old j mask.new }
 {
-    let w = j / 64;
-    mask[w] = mask[w] | (1u64 << (j % 64));
+    mask[j / 64] |= 1u64 << (j % 64);
 }
 
 // Whether j is in a mask.
@@ -204,40 +152,11 @@ pub fn word_without(mask: &[u64], w: usize, j: usize) -> u64
     word & (word ^ (1u64 << (j % 64)))
 }
 
-fn first_one(word: u64) -> usize
-    ensures { Lowest word result }
-{
-    for b in 0..64 {
-        if (word >> b) % 2 != 0 {
-            return b;
-        }
-    }
-    64
-}
-
-// Whether bit `count` is the lowest that is 1.
-fn is_lowest(word: u64, count: usize) -> bool
-    requires { count < 64 }
-    ensures { result ≡ true → Lowest word count }
-{
-    if word & ((1u64 << count) - 1) != 0 {
-        return false;
-    }
-    (word >> count) % 2 != 0
-}
-
 // The number of the lowest bit that is 1; 64 where there is none.
 fn lowest(word: u64) -> usize
     ensures { Lowest word result }
 {
-    if word == 0 {
-        return 64;
-    }
-    let count = (u64::trailing_zeros(word) % 64) as usize;
-    if is_lowest(word, count) {
-        return count;
-    }
-    first_one(word)
+    word.trailing_zeros() as usize
 }
 
 // The number of the first bit from `from` on that is 1; one that is not below 64 where there is none.
@@ -264,8 +183,8 @@ pub fn rest(x: &[u64], y: &[u64], rest: &mut [u64])
     requires { length rest.old ≡ 8 }
     ensures { Rest x.now y.now 8 rest.new }
 {
-    for w in 0..8 {
+    for (w, rest_word) in rest.iter_mut().enumerate() {
         let word = mask_word(x, w);
-        rest[w] = word & (word ^ mask_word(y, w));
+        *rest_word = word & (word ^ mask_word(y, w));
     }
 }

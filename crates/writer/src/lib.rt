@@ -10,47 +10,33 @@ ghost use Rattle.writer.specs.Frames.{cell_frame, set_frames};
 ghost use Rattle.writer.specs.Appended.{Appended};
 
 use hexadecimal::digit_of;
-use offsets::bits;
-use types::{Fault, PropositionNumber, QuestionNumber, TermNumber, refusal_number};
+use types::{Fault, PropositionNumber, QuestionNumber, TermNumber, Verdict};
 
-// Byte k of a number, the lowest first.
-fn byte_of(v: u64, k: u32) -> u8
-    requires { k < 8 }
-    ensures { result ≡ v / 256 ^ k % 256 }
-{
-    ((v >> (8 * k)) % 256) as u8
-}
-
-// Writes a frame's bytes as a line.
+// Writes a frame's bytes as a line. Here and below the place goes in and comes back: the buffer is the caller's, and a struct that lends
+// it would make each clause speak of a loan in a loan.
 fn put_line(out: &mut [u8], at: usize, frame: &[u8]) -> usize
     requires { at + length (line_of frame.now) ≤ length out.old }
     ensures { Appended out.old at (line_of frame.now) out.new result }
 {
     let mut next = at;
-    for k in 0..frame.len() {
-        let b = frame[k];
+    for b in frame {
         out[next] = digit_of(b / 16);
         out[next + 1] = digit_of(b % 16);
-        next = next + 2;
+        next += 2;
     }
     out[next] = 10;
     next + 1
 }
 
-fn put_satisfiable(out: &mut [u8], at: usize) -> usize
-    requires { at + length (verdict_frame Satisfiable) ≤ length out.old }
-    ensures { Appended out.old at (verdict_frame Satisfiable) out.new result }
+fn put_verdict(out: &mut [u8], at: usize, verdict: Verdict) -> usize
+    requires { at + length (verdict_frame verdict) ≤ length out.old }
+    ensures { Appended out.old at (verdict_frame verdict) out.new result }
 {
-    let frame = [0xA0, 0];
-    put_line(out, at, &frame)
-}
-
-fn put_contradiction(out: &mut [u8], at: usize) -> usize
-    requires { at + length (verdict_frame Contradiction) ≤ length out.old }
-    ensures { Appended out.old at (verdict_frame Contradiction) out.new result }
-{
-    let frame = [0xA0, 1];
-    put_line(out, at, &frame)
+    let number = match verdict {
+        Verdict::Satisfiable => 0,
+        Verdict::Contradiction => 1,
+    };
+    put_line(out, at, &[0xA0, number])
 }
 
 // A term's representative and offset.
@@ -58,24 +44,10 @@ fn put_label(out: &mut [u8], at: usize, term: TermNumber, representative: u32, o
     requires { at + length (label_frame term.0 representative offset) ≤ length out.old }
     ensures { Appended out.old at (label_frame term.0 representative offset) out.new result }
 {
-    let t = term.0 as u64;
-    let r = representative as u64;
-    let o = bits(offset);
-    let frame = [
-        0xA1,
-        byte_of(t, 1),
-        byte_of(t, 0),
-        byte_of(r, 1),
-        byte_of(r, 0),
-        byte_of(o, 7),
-        byte_of(o, 6),
-        byte_of(o, 5),
-        byte_of(o, 4),
-        byte_of(o, 3),
-        byte_of(o, 2),
-        byte_of(o, 1),
-        byte_of(o, 0),
-    ];
+    let [.., t1, t0] = (term.0 as u64).to_be_bytes();
+    let [.., r1, r0] = representative.to_be_bytes();
+    let [o7, o6, o5, o4, o3, o2, o1, o0] = offset.to_be_bytes();
+    let frame = [0xA1, t1, t0, r1, r0, o7, o6, o5, o4, o3, o2, o1, o0];
     put_line(out, at, &frame)
 }
 
@@ -86,8 +58,8 @@ fn put_labels(out: &mut [u8], at: usize, representatives: &[u32], offsets: &[i64
     ensures { Appended out.old at (label_frames 0 representatives.now offsets.now) out.new result }
 {
     let mut next = at;
-    for t in 0..representatives.len() {
-        next = put_label(out, next, TermNumber(t), representatives[t], offsets[t]);
+    for (t, (r, o)) in representatives.iter().zip(offsets).enumerate() {
+        next = put_label(out, next, TermNumber(t), *r, *o);
     }
     next
 }
@@ -100,9 +72,8 @@ fn put_blamed(out: &mut [u8], at: usize, proposition: PropositionNumber, mark: u
     if mark == 0 {
         return at;
     }
-    let p = proposition.0 as u64;
-    let frame = [0xA2, byte_of(p, 1), byte_of(p, 0)];
-    put_line(out, at, &frame)
+    let [.., p1, p0] = (proposition.0 as u64).to_be_bytes();
+    put_line(out, at, &[0xA2, p1, p0])
 }
 
 // The answer to a question.
@@ -110,12 +81,12 @@ fn put_answer(out: &mut [u8], at: usize, question: QuestionNumber, answer: u8) -
     requires { at + length (answer_frame question.0 answer) ≤ length out.old }
     ensures { Appended out.old at (answer_frame question.0 answer) out.new result }
 {
-    let q = question.0 as u64;
-    let frame = [0xA3, byte_of(q, 1), byte_of(q, 0), answer];
-    put_line(out, at, &frame)
+    let [.., q1, q0] = (question.0 as u64).to_be_bytes();
+    put_line(out, at, &[0xA3, q1, q0, answer])
 }
 
-// The mark of a proposition, or the answer to a question.
+// The mark of a proposition, or the answer to a question. A switch: a trait or a closure would only wrap the two calls, whose numbers
+// have types of their own.
 fn put_cell(out: &mut [u8], at: usize, blamed: bool, number: usize, cell: u8) -> usize
     requires { at + length (cell_frame blamed number cell) ≤ length out.old }
     ensures { Appended out.old at (cell_frame blamed number cell) out.new result }
@@ -133,8 +104,8 @@ fn put_cells(out: &mut [u8], at: usize, blamed: bool, cells: &[u8]) -> usize
     ensures { Appended out.old at (cell_frames (cell_frame blamed) 0 cells.now) out.new result }
 {
     let mut next = at;
-    for k in 0..cells.len() {
-        next = put_cell(out, next, blamed, k, cells[k]);
+    for (k, cell) in cells.iter().enumerate() {
+        next = put_cell(out, next, blamed, k, *cell);
     }
     next
 }
@@ -144,10 +115,8 @@ pub fn put_refusal(out: &mut [u8], fault: Fault) -> usize
     requires { length (refusal_frame fault) ≤ length out.old }
     ensures { Appended out.old 0 (refusal_frame fault) out.new result }
 {
-    let refusal = fault.refusal;
-    let p = fault.place as u64;
-    let frame = [0xA4, refusal_number(refusal), byte_of(p, 1), byte_of(p, 0)];
-    put_line(out, 0, &frame)
+    let [.., p1, p0] = (fault.place as u64).to_be_bytes();
+    put_line(out, 0, &[0xA4, u8::from(fault.refusal), p1, p0])
 }
 
 // The frames of a satisfiable set: its verdict, its terms and its questions.
@@ -163,7 +132,7 @@ pub fn put_satisfiable_set(
     ensures { let labels = label_frames 0 representatives.now offsets.now in
         Appended out.old 0 (set_frames Satisfiable labels answers.now) out.new result }
 {
-    let labels = put_satisfiable(out, 0);
+    let labels = put_verdict(out, 0, Verdict::Satisfiable);
     let questions = put_labels(out, labels, representatives, offsets);
     put_cells(out, questions, false, answers)
 }
@@ -173,7 +142,7 @@ pub fn put_contradictory_set(out: &mut [u8], marks: &[u8], answers: &[u8]) -> us
     requires { length (set_frames Contradiction (blame_frames marks.now) answers.now) ≤ length out.old }
     ensures { Appended out.old 0 (set_frames Contradiction (blame_frames marks.now) answers.now) out.new result }
 {
-    let blame = put_contradiction(out, 0);
+    let blame = put_verdict(out, 0, Verdict::Contradiction);
     let questions = put_cells(out, blame, true, marks);
     put_cells(out, questions, false, answers)
 }

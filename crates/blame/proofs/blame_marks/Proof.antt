@@ -34,19 +34,19 @@ drop-run-requires c κs =
     let s = l in
     let i = l.loop-k.invariant in (
       record { good = s.requires.0.good; marks_count = i.trying.count; reps_count = i.reps_count; offs_count = i.offs_count },
-      (omega (arith, a.run_start-low.ensures), i.trying.within, i.trying.ones),
+      (omega (arith, a.saturating_sub-low.ensures), i.trying.within, i.trying.ones),
     )
 
 -- the next run's length fits
 mul-run : tie.Need-overflow_mul-run invariant-loop decreases-loop
 mul-run c =
     let a = c in
-    omega (arith, a.run_start-low.ensures, a.loop-k.invariant.run_most)
+    omega (arith, a.saturating_sub-low.ensures, a.loop-k.invariant.run_most)
 
 loop-less : tie.Need-loop-k-smaller-then-drop_run invariant-loop decreases-loop
 loop-less c =
     let a = c in
-    omega (arith, a.run_start-low.ensures, a.loop-k-test.true, a.loop-k.invariant.run_least)
+    omega (arith, a.saturating_sub-low.ensures, a.loop-k-test.true, a.loop-k.invariant.run_least)
 
 loop-again : tie.Need-loop-k-preserved-then-drop_run invariant-loop decreases-loop
 loop-again c =
@@ -58,14 +58,14 @@ loop-again c =
     let i = l.loop-k.invariant in
     let e = sym t.drop_run.ensures.0 ∙ c.if-drop_run.true in
     record {
-      trying = rw t.drop_run.ensures.1 (trying_dropped _ s.requires.0.good i.trying (omega (arith, a.run_start-low.ensures)) e);
+      trying = rw t.drop_run.ensures.1 (trying_dropped _ s.requires.0.good i.trying (omega (arith, a.saturating_sub-low.ensures)) e);
       reps_count = t.drop_run.auto.representatives ∙ i.reps_count;
       offs_count = t.drop_run.auto.offsets ∙ i.offs_count;
-      run_least = omega (arith, a.run_start-low.ensures, h, i.run_least);
-      run_most = omega (arith, a.run_start-low.ensures, h, i.run_most);
+      run_least = omega (arith, a.saturating_sub-low.ensures, h, i.run_least);
+      run_most = omega (arith, a.saturating_sub-low.ensures, h, i.run_most);
     }
 
-find-blamed-requires : tie.Need-find_blamed-blamed-requires invariant-loop decreases-loop
+find-blamed-requires : tie.Need-find_blamed-k-requires invariant-loop decreases-loop
 find-blamed-requires c κs =
     let f = c in
     let t = f in
@@ -75,14 +75,14 @@ find-blamed-requires c κs =
     let s = l in
     let i = l.loop-k.invariant in
     let stays = sym t.drop_run.ensures.0 ∙ f.if-drop_run.false in
-    let same = t.drop_run.ensures.1 ∙ tried_kept _ l.loop-k.marks a.run_start-low.result l.loop-k.k stays in (
+    let same = t.drop_run.ensures.1 ∙ tried_kept _ l.loop-k.marks a.saturating_sub-low.result l.loop-k.k stays in (
       record {
         good = s.requires.0.good;
         marks_count = t.drop_run.auto.marks ∙ i.trying.count;
         reps_count = t.drop_run.auto.representatives ∙ i.reps_count;
         offs_count = t.drop_run.auto.offsets ∙ i.offs_count;
       },
-      ((omega (arith, a.run_start-low.ensures, h, i.run_least), i.trying.within, rw same i.trying.ones), rw same stays),
+      ((omega (arith, a.saturating_sub-low.ensures, h, i.run_least), i.trying.within, rw same i.trying.ones), rw same stays),
     )
 
 loop-again-2 : tie.Need-loop-k-preserved invariant-loop decreases-loop
@@ -95,12 +95,12 @@ loop-again-2 c =
     let s = l in
     let i = l.loop-k.invariant in
     let stays = sym t.drop_run.ensures.0 ∙ f.if-drop_run.false in
-    let same = t.drop_run.ensures.1 ∙ tried_kept _ l.loop-k.marks a.run_start-low.result l.loop-k.k stays in
-    let e = b.find_blamed-blamed.ensures in
+    let same = t.drop_run.ensures.1 ∙ tried_kept _ l.loop-k.marks a.saturating_sub-low.result l.loop-k.k stays in
+    let e = b.find_blamed-k.ensures in
     record {
       trying = trying_blamed _ s.requires.0.good (rw same i.trying) e;
-      reps_count = b.find_blamed-blamed.auto.representatives ∙ (t.drop_run.auto.representatives ∙ i.reps_count);
-      offs_count = b.find_blamed-blamed.auto.offsets ∙ (t.drop_run.auto.offsets ∙ i.offs_count);
+      reps_count = b.find_blamed-k.auto.representatives ∙ (t.drop_run.auto.representatives ∙ i.reps_count);
+      offs_count = b.find_blamed-k.auto.offsets ∙ (t.drop_run.auto.offsets ∙ i.offs_count);
       run_least = omega arith;
       run_most = omega (arith, e.nonempty, e.below, i.trying.within);
     }
@@ -120,12 +120,12 @@ blame_marks_spec =
     loop-holds
     (λ c κs. search rules)
     drop-run-requires
-    (λ c. omega (arith, c.run_start-low.ensures))
+    (λ c. omega (arith, c.saturating_sub-low.ensures))
     mul-run
     loop-less
     loop-again
     find-blamed-requires
-    (λ c. let e = c.find_blamed-blamed.ensures in omega (arith, e.nonempty, e.below))
+    (λ c. let e = c.find_blamed-k.ensures in omega (arith, e.nonempty, e.below))
     loop-again-2
     (λ c. omega (arith, c.loop-k.invariant.trying.count))
     (λ c. omega (arith, c.loop-k.invariant.reps_count))

@@ -1,11 +1,16 @@
 -- What is read of the text decides the output for it.
-use Rattle.std.proofs.Common.{◌≡◌, ℕ, ◌<◌, ◌≤◌, List, rules, [], ◌++◌, Bool, true, false, leb, leb-true, Option, None, Some, IfSome, refl, sym, ap, ◌∙◌, subst, arith, length, take, append-nil, length-take-le}
+use Rattle.std.proofs.Common.{◌≡◌, ℕ, ◌<◌, ◌≤◌, List, rules, [], ◌++◌, Bool, true, false, leb, leb-true, Option, None, Some, IfSome, refl, sym, ap, ◌∙◌, subst, arith, length, take, append-nil, length-take-le, Result, Ok, Err}
 use Rattle.std.proofs.lemmas.Bool.{leb-false}
 use Rattle.std.proofs.KnownBytes.{Keeps-refl}
 use Rattle.std.specs.Io.KnownBytes.{Appends, Consumes, IsAtEnd}
 use lib.Seq.{take-append-le}
 use Rattle.text.specs.Output.{judged, output}
-use Rattle.bucketmonk.specs.Calls.{WritesFirst}
+use Rattle.std.specs.Prelude.{MatchResult, IsErrAnd}
+use Rattle.std.specs.declared.io.Error.{Error}
+use Rattle.bucketmonk.specs.Answers.{WritesAnswer}
+use Rattle.bucketmonk.specs.declared.failure.Failure.{Failure}
+use Rattle.bucketmonk.specs.declared.failure.Failure.TheVariants.{Input, Output}
+use Rattle.bucketmonk.specs.Calls.{WritesFirst, PutsBytes}
 use Rattle.bucketmonk.proofs.answer_input.Goals as goal
 
 -- only the judged bytes of a text decide its output
@@ -33,19 +38,28 @@ text_known : (known : Option (List ℕ)) → (text : List ℕ) × IfSome known (
 text_known None = ([], tt)
 text_known (Some bytes) = (bytes, refl)
 
-pub returns-in-Ok-answer : goal.returns-in-Ok-answer
-returns-in-Ok-answer g c =
-    let read = c.in-Ok.ensures in
-    let (text, known, same) = text_of (g.R.Read.remaining c.args.reader.now) (g.R.Read.remaining c.read_input.new.reader) c.in-Ok.n c.read_input.new.buffer (search rules) read.within read.bytes read.end in
-    (text, known, subst (Appends _ _) same c.in-Ok-answer.ensures)
+-- a failure tells which stream it is of
+unread : (r : Result ℕ Error) (m : Result ℕ Failure) (turns : Error → Failure → Type 0) (f : Failure) → MatchResult r (λ n. m ≡ Ok n) (λ e. IsErrAnd m (turns e)) → m ≡ Err f → ((e : Error) (g : Failure) → turns e g → g ≡ Input e) → (old : Option (List ℕ)) (bytes : List ℕ) → WritesAnswer {A = Unit {0}} (Err f) old old bytes
+unread (Ok n) m turns f is err by old bytes = cc
+unread (Err e) (Ok n) turns f is err by old bytes = cc
+unread (Err e) (Err g) turns f is err by old bytes = let same = by e g is in let s : f ≡ Input e = cc in rw s (Keeps-refl old)
 
-pub returns-in-Err-answer : goal.returns-in-Err-answer
-returns-in-Err-answer g c =
-    let read = c.in-Ok.ensures in
-    let (text, known, same) = text_of (g.R.Read.remaining c.args.reader.now) (g.R.Read.remaining c.read_input.new.reader) c.in-Ok.n c.read_input.new.buffer (search rules) read.within read.bytes read.end in
-    (text, known, subst (WritesFirst _ _) same c.in-Err-answer.ensures)
+written : (r : Result (Unit {0}) Error) (m : Result (Unit {0}) Failure) (turns : Error → Failure → Type 0) → MatchResult r (λ x. m ≡ Ok x) (λ e. IsErrAnd m (turns e)) → ((e : Error) (g : Failure) → turns e g → g ≡ Output e) → (old new : Option (List ℕ)) (bytes : List ℕ) → PutsBytes r old new bytes → WritesAnswer m old new bytes
+written (Ok x) m turns is by old new bytes puts = rw is puts
+written (Err e) (Ok x) turns is by old new bytes puts = absurd is
+written (Err e) (Err g) turns is by old new bytes puts = rw (by e g is) puts
 
-pub returns-in-Err : goal.returns-in-Err
-returns-in-Err g c =
+pub returns-in_err-n : goal.returns-in_err-n
+returns-in_err-n g c =
     let known = text_known (g.R.Read.remaining c.args.reader.now) in
-    (known.0, known.1, Keeps-refl _)
+    let e : c.from_residual.result ≡ Err c.in_err-n.field-0.0 = search rules in
+    (known.0, known.1, rw e (unread c.read_input.result c.map_err.result _ c.in_err-n.field-0.0 c.map_err.ensures.cases c.in_err-n.was (λ a b p. search rules) _ _))
+
+pub returns : goal.returns
+returns g c =
+    let is : c.read_input.result ≡ Ok c.in_ok-n.n = search rules in
+    let within = rw is at c.read_input.ensures.within in
+    let bytes = rw is at c.read_input.ensures.bytes in
+    let ends = rw is at c.read_input.ensures.end in
+    let (text, known, same) = text_of (g.R.Read.remaining c.args.reader.now) (g.R.Read.remaining c.read_input.new.reader) c.in_ok-n.n c.read_input.new.buffer (search rules) within bytes ends in
+    (text, known, subst (WritesAnswer _ _ _) same (written c.answer.result c.map_err-2.result _ c.map_err-2.ensures.cases (λ a b p. search rules) _ _ _ c.answer.ensures))

@@ -1,5 +1,5 @@
 -- The words of the page, and where each is defined.
-pub use Rattle.std.specs.Prelude.{ℕ, ◌+◌, ◌*◌, ◌-◌, ◌^◌, ◌<◌, ◌≤◌, ◌≡◌, ◌⊎◌, ◌↔◌, true, false, List, ◌++◌, ℤ, pos, neg_ℤ, ◌+ℤ◌, ◌-ℤ◌, length, get_or, set, take, drop}
+pub use Rattle.std.specs.Prelude.{ℕ, ◌+◌, ◌*◌, ◌-◌, ◌^◌, ◌<◌, ◌≤◌, ◌≡◌, ◌⊎◌, ◌↔◌, true, false, List, ◌++◌, ℤ, pos, neg_ℤ, ◌+ℤ◌, ◌-ℤ◌, length, get_or, set, take, drop, Result, Ok, Err}
 pub use Rattle.std.proofs.Math.Option.{none, some}
 pub use Rattle.integers.specs.Within.{Within}
 pub use Rattle.lists.specs.Items.{Item}
@@ -8,10 +8,8 @@ pub use Rattle.lists.specs.Overwrite.{overwrite}
 pub use Rattle.types.specs.declared.Blame.{Blame}
 pub use Rattle.types.specs.declared.Fault.{Fault}
 pub use Rattle.types.specs.declared.Counts.{Counts}
-pub use Rattle.types.specs.declared.Solved.{Solved}
 pub use Rattle.types.specs.declared.Verdict.{Verdict}
 pub use Rattle.types.specs.declared.Answer.{Answer}
-pub use Rattle.types.specs.declared.ReadResult.{ReadResult}
 pub use Rattle.types.specs.Numbers.{number_of_answer}
 pub use Rattle.numbers.specs.Numbers.{number_of_solved, Tells, TellsCounts, blame_of_number, asks_unless_zero}
 pub use Rattle.rules.specs.Terms.{Term, Proposition, Comparison, Given, listed}

@@ -37,7 +37,7 @@ returns-2 c = let s = c.requires in let a = c.args in let k = c.is_consistent.au
     c.reset.ensures
     c.write_marks.ensures
     (filled_as 0 c.fill-2.ensures s.pairs)
-    (filled_as 3 (rw c.answer_number.ensures at c.fill-3.ensures) s.answers)
+    (filled_as 3 (rw c.from.ensures at c.fill-3.ensures) s.answers)
 
 pub solve_accepted_spec : {M : Type 1} → statement M
 solve_accepted_spec =

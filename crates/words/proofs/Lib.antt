@@ -1,0 +1,2 @@
+-- Runs of bytes as numbers, and numbers as bytes (Bytes).
+pub mod Bytes

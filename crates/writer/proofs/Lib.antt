@@ -1,0 +1,2 @@
+-- A number's bytes as std writes them (Bytes).
+pub mod Bytes
