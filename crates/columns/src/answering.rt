@@ -50,7 +50,8 @@ fn answer_one(
     questions: &[QuestionRow],
     k: QuestionNumber,
 ) -> Answer
-    requires { let T = terms.now in let n = facts.now.reads.n in Placed n T.reps.now T.offs.now T.heights.now × (AcceptedQuestions n (length questions.now) (question_in questions.now) × (k.0 < length questions.now)) }
+    requires { let T = terms.now in let n = facts.now.reads.n in
+        Placed n T.reps.now T.offs.now T.heights.now × (AcceptedQuestions n (length questions.now) (question_in questions.now) × (k.0 < length questions.now)) }
     ensures { RowJudgedBy facts.now terms.now (asked (question_in questions.now k.0)) result }
 {
     let r = question_at(questions, k);
@@ -75,7 +76,9 @@ fn answer_one(
 
 // The answers to the questions, each into its byte.
 fn answer_each(facts: &Facts, terms: &LabelledTerms, questions: &[QuestionRow], answers: &mut [u8])
-    requires { let T = terms.now in let n = facts.now.reads.n in Placed n T.reps.now T.offs.now T.heights.now × (AcceptedQuestions n (length questions.now) (question_in questions.now) × ((length questions.now ≤ most) × (length answers.old ≡ length questions.now))) }
+    requires { let T = terms.now in let n = facts.now.reads.n in
+        Placed n T.reps.now T.offs.now T.heights.now ×
+        (AcceptedQuestions n (length questions.now) (question_in questions.now) × ((length questions.now ≤ most) × (length answers.old ≡ length questions.now))) }
     ensures { RowsToldBy facts.now terms.now questions.now (length questions.now) answers.new }
 {
     for k in 0..questions.len() {
@@ -93,7 +96,9 @@ pub(crate) fn answer_all<'x>(
     answers: &mut [u8],
 )
     requires room { Room set.now.n pairs.now }
-    requires placed { let T = terms.now in let n = set.now.n in Placed n T.reps.now T.offs.now T.heights.now × (AcceptedQuestions n (length questions.now) (question_in questions.now) × ((length questions.now ≤ most) × (length answers.old ≡ length questions.now))) }
+    requires placed { let T = terms.now in let n = set.now.n in
+        Placed n T.reps.now T.offs.now T.heights.now ×
+        (AcceptedQuestions n (length questions.now) (question_in questions.now) × ((length questions.now ≤ most) × (length answers.old ≡ length questions.now))) }
     requires side_columns { let S = set.now in SideColumns S.m S.sides.left_classes.now S.sides.left_heights.now S.sides.right_heights.now }
     ensures { RowsToldOf set.now terms.now pairs.now questions.now (length questions.now) answers.new }
 {

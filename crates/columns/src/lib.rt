@@ -52,7 +52,8 @@ fn tell_places(
     answers: &mut [u8],
 )
     requires labelling { Labelling (set_of terms.now propositions.now) reps.now offs.now }
-    requires filled { let C = columns.now in Filled (set_of terms.now propositions.now) reps.now offs.now C.heights C.reads C.read_heights C.sides.left_classes C.sides.left_heights C.sides.right_classes C.sides.right_heights C.apart }
+    requires filled { let C = columns.now in
+        Filled (set_of terms.now propositions.now) reps.now offs.now C.heights C.reads C.read_heights C.sides.left_classes C.sides.left_heights C.sides.right_classes C.sides.right_heights C.apart }
     requires asking { Asking (length terms.now) questions.now pairs.old answers.old }
     ensures pairs_value { pairs.new ≡ pairs_by (set_of terms.now propositions.now) reps.now offs.now }
     ensures answers_value { answers.new ≡ answers_by (set_of terms.now propositions.now) reps.now offs.now (questions_in questions.now) }

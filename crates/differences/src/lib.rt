@@ -41,7 +41,8 @@ fn mark_base(
 )
     requires unique { let P = places.now in Unique P.n P.classes.now P.heights.now }
     requires sides { let P = places.now in let S = sides.now in Sides P.n m S.left_classes.now S.left_heights.now S.right_classes.now S.right_heights.now × (Room P.n apart.now × Room P.n pairs.old) }
-    ensures { let P = places.now in let S = sides.now in Based P.n m P.classes.now P.heights.now S.left_classes.now S.left_heights.now S.right_classes.now S.right_heights.now apart.now (length pairs.old) pairs.new }
+    ensures { let P = places.now in let S = sides.now in
+        Based P.n m P.classes.now P.heights.now S.left_classes.now S.left_heights.now S.right_classes.now S.right_heights.now apart.now (length pairs.old) pairs.new }
 {
     clear(pairs);
     mark_classes(places, apart, pairs);

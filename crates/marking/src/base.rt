@@ -178,7 +178,8 @@ fn mark_listed_pair(
     notes: &mut Notes,
 )
     requires { let S = sides.now in let P = places.now in Side P.n S.left_classes.now S.left_heights.now S.right_classes.now S.right_heights.now k.0 × Room P.n pairs.old }
-    ensures { let S = sides.now in let P = places.now in Adds P.n (ListedPair P.n P.classes.now P.heights.now S.left_classes.now S.left_heights.now S.right_classes.now S.right_heights.now k.0) pairs.old pairs.new }
+    ensures { let S = sides.now in let P = places.now in
+        Adds P.n (ListedPair P.n P.classes.now P.heights.now S.left_classes.now S.left_heights.now S.right_classes.now S.right_heights.now k.0) pairs.old pairs.new }
 {
     let at = k.0;
     let x = Place {
@@ -207,7 +208,8 @@ pub fn mark_listed(
     notes: &mut Notes,
 )
     requires { let S = sides.now in let P = places.now in Sides P.n m S.left_classes.now S.left_heights.now S.right_classes.now S.right_heights.now × Room P.n pairs.old }
-    ensures { let S = sides.now in let P = places.now in Adds P.n (Upto m (ListedPair P.n P.classes.now P.heights.now S.left_classes.now S.left_heights.now S.right_classes.now S.right_heights.now)) pairs.old pairs.new }
+    ensures { let S = sides.now in let P = places.now in
+        Adds P.n (Upto m (ListedPair P.n P.classes.now P.heights.now S.left_classes.now S.left_heights.now S.right_classes.now S.right_heights.now)) pairs.old pairs.new }
 {
     for k in 0..m {
         mark_listed_pair(places, PropositionNumber(k), sides, pairs, notes);

@@ -41,7 +41,7 @@ fn mark_place(places: &ChainedPlaces, i: TermNumber, at: Place, pairs: &mut [u8]
     }
 }
 
-// The pairs of i with the terms of class b that are as far from it as q from p.
+// The pairs of i with the terms of the class of y that are as far from it as y from height p.
 pub(crate) fn mark_with(
     places: &ChainedPlaces,
     i: TermNumber,
@@ -74,7 +74,7 @@ pub(crate) fn mark_with(
     );
 }
 
-// The pairs of terms of the classes a and b that are as far apart as p and q.
+// The pairs of terms of the classes of x and y that are as far apart as x and y.
 fn mark_from(places: &ChainedPlaces, x: Place, y: Place, pairs: &mut [u8], notes: &mut Notes)
     requires { let P = places.now in (x.class ≤ P.n) × ((y.class ≤ P.n) × ((y.height < top) × Room P.n pairs.old)) }
     ensures { let P = places.now in Adds P.n (Upto P.n (PairsFrom P.n P.classes.now P.heights.now x.class x.height y.class y.height)) pairs.old pairs.new }

@@ -1,6 +1,6 @@
 // All pairs of terms that stand as far apart as two places.
 ghost use Rattle.std.specs.Prelude.{◌<◌};
-ghost use Rattle.distances.specs.Distances.{Indexed};
+ghost use Rattle.distances.specs.Views.{IndexedBy};
 ghost use Rattle.points.specs.Places.{AtEither, top};
 ghost use Rattle.marking.specs.Known.{Uniform};
 ghost use Rattle.marking.specs.Marks.{Adds, Room};
@@ -14,7 +14,8 @@ use distances::index::DistanceIndex;
 use points::chained::ChainedPlaces;
 use points::places::Place;
 
-// The pairs of terms of the classes a and b that are as far apart as p and q: by the index, if their pairs are in it, or unless they are known to be set.
+// The pairs of terms of the classes of x and y that are as far apart as x and y: by the index, if their pairs are in it, or unless they are
+// known to be set.
 fn mark_many(
     places: &ChainedPlaces,
     x: Place,
@@ -24,8 +25,9 @@ fn mark_many(
     pairs: &mut [u8],
     notes: &mut Notes,
 )
-    requires chained { let I = by_distance.now in let P = places.now in Indexed P.n P.classes.now P.heights.now apart.now I.levels.now I.from.now I.order.now I.starts.now I.entries.now }
-    requires a_lt_n { let P = places.now in (x.class < P.n) × ((y.class < P.n) × ((x.height < top) × ((y.height < top) × (Room P.n apart.now × (Room P.n pairs.old × Uniform P.n P.classes.now P.heights.now pairs.old))))) }
+    requires chained { IndexedBy places.now apart.now by_distance.now }
+    requires a_lt_n { let P = places.now in (x.class < P.n) × ((y.class < P.n) × ((x.height < top) × ((y.height < top) ×
+        (Room P.n apart.now × (Room P.n pairs.old × Uniform P.n P.classes.now P.heights.now pairs.old))))) }
     ensures { let P = places.now in Adds P.n (AtEither P.classes.now P.heights.now x.class x.height y.class y.height) pairs.old pairs.new }
 {
     if is_indexed(places.n, x.class, y.class, by_distance.levels, apart) {
@@ -44,7 +46,7 @@ fn mark_many(
     mark_between(places, x, y, pairs, notes);
 }
 
-// The pairs of terms of the classes a and b that are as far apart as p and q. Public for the crate `settling`.
+// The pairs of terms of the classes of x and y that are as far apart as x and y. Public for the crate `settling`.
 pub fn mark_distance(
     places: &ChainedPlaces,
     x: Place,
@@ -54,8 +56,9 @@ pub fn mark_distance(
     pairs: &mut [u8],
     notes: &mut Notes,
 )
-    requires chained { let I = by_distance.now in let P = places.now in Indexed P.n P.classes.now P.heights.now apart.now I.levels.now I.from.now I.order.now I.starts.now I.entries.now }
-    requires a_lt_n { let P = places.now in (x.class < P.n) × ((y.class < P.n) × ((x.height < top) × ((y.height < top) × (Room P.n apart.now × (Room P.n pairs.old × Uniform P.n P.classes.now P.heights.now pairs.old))))) }
+    requires chained { IndexedBy places.now apart.now by_distance.now }
+    requires a_lt_n { let P = places.now in (x.class < P.n) × ((y.class < P.n) × ((x.height < top) × ((y.height < top) ×
+        (Room P.n apart.now × (Room P.n pairs.old × Uniform P.n P.classes.now P.heights.now pairs.old))))) }
     ensures { let P = places.now in Adds P.n (AtEither P.classes.now P.heights.now x.class x.height y.class y.height) pairs.old pairs.new }
 {
     if mark_single(places, x, y, pairs, notes) {

@@ -3,7 +3,8 @@ ghost use Rattle.std.specs.Prelude.{◌≡◌, ◌+◌, ◌*◌, ◌<◌, ◌≤
 ghost use Rattle.tables.specs.Limits.{most};
 ghost use Rattle.pairbits.specs.Bits.{is_set};
 ghost use Rattle.points.specs.Places.{AtEither, class_slots, top};
-ghost use Rattle.distances.specs.Distances.{Indexed, comes_before};
+ghost use Rattle.distances.specs.Distances.{comes_before};
+ghost use Rattle.distances.specs.Views.{IndexedBy};
 ghost use Rattle.marking.specs.Marks.{Adds, Room};
 ghost use Rattle.marking.specs.Pairs.{Candidate, Span};
 
@@ -55,7 +56,8 @@ fn mark_candidate(
 )
     requires column { length by_distance.now.from.now ≡ class_slots }
     requires a_lt_n { let P = places.now in (x.class < P.n) × ((y.class < P.n) × ((y.height < top) × Room P.n pairs.old)) }
-    ensures { let I = by_distance.now in let P = places.now in Adds P.n (Candidate P.n P.classes.now P.heights.now I.from.now I.order.now I.entries.now x.class x.height y.class y.height c) pairs.old pairs.new }
+    ensures { let I = by_distance.now in let P = places.now in
+        Adds P.n (Candidate P.n P.classes.now P.heights.now I.from.now I.order.now I.entries.now x.class x.height y.class y.height c) pairs.old pairs.new }
 {
     if by_distance.entries.len() <= c {
         return;
@@ -89,14 +91,15 @@ fn mark_candidates(
 )
     requires column { length by_distance.now.from.now ≡ class_slots }
     requires a_lt_n { let P = places.now in (x.class < P.n) × ((y.class < P.n) × ((y.height < top) × Room P.n pairs.old)) }
-    ensures { let I = by_distance.now in let P = places.now in Adds P.n (Span start end (Candidate P.n P.classes.now P.heights.now I.from.now I.order.now I.entries.now x.class x.height y.class y.height)) pairs.old pairs.new }
+    ensures { let I = by_distance.now in let P = places.now in
+        Adds P.n (Span start end (Candidate P.n P.classes.now P.heights.now I.from.now I.order.now I.entries.now x.class x.height y.class y.height)) pairs.old pairs.new }
 {
     for c in start..end {
         mark_candidate(places, c, x, y, by_distance, pairs, notes);
     }
 }
 
-// The pairs of terms of the classes a and b that are as far apart as p and q, whose pairs are in the index by points of a.
+// The pairs of terms of the classes of x and y that are as far apart as x and y, whose pairs are in the index by points of the class of x.
 pub(crate) fn mark_indexed(
     places: &ChainedPlaces,
     x: Place,
@@ -106,8 +109,10 @@ pub(crate) fn mark_indexed(
     pairs: &mut [u8],
     notes: &mut Notes,
 )
-    requires column { let I = by_distance.now in let P = places.now in Indexed P.n P.classes.now P.heights.now apart.now I.levels.now I.from.now I.order.now I.starts.now I.entries.now }
-    requires a_lt_n { let I = by_distance.now in let P = places.now in (x.class < P.n) × ((y.class < P.n) × ((x.height < top) × ((y.height < top) × ((comes_before I.levels.now x.class y.class ≡ true) × ((is_set apart.now (x.class * P.n + y.class) ≡ false) × Room P.n pairs.old))))) }
+    requires column { IndexedBy places.now apart.now by_distance.now }
+    requires a_lt_n { let I = by_distance.now in let P = places.now in
+        (x.class < P.n) × ((y.class < P.n) × ((x.height < top) × ((y.height < top) ×
+        ((comes_before I.levels.now x.class y.class ≡ true) × ((is_set apart.now (x.class * P.n + y.class) ≡ false) × Room P.n pairs.old))))) }
     ensures { let P = places.now in Adds P.n (AtEither P.classes.now P.heights.now x.class x.height y.class y.height) pairs.old pairs.new }
 {
     let k = bucket(x, y);

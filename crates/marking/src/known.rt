@@ -24,7 +24,7 @@ fn known_place(places: &ChainedPlaces, i: TermNumber, at: Place, pairs: &[u8]) -
     false
 }
 
-// The same of the terms of class b that are as far from i as q from p.
+// The same of the terms of the class of y that are as far from i as y from height p.
 fn known_with(places: &ChainedPlaces, i: TermNumber, p: u64, y: Place, pairs: &[u8]) -> bool
     requires { let P = places.now in (y.class ≤ P.n) × ((y.height < top) × ((i.0 < P.n) × Room P.n pairs.now)) }
     ensures { let P = places.now in result ≡ true → KnownWith P.n P.classes.now P.heights.now pairs.now p y.class y.height i.0 }
@@ -52,7 +52,7 @@ fn known_with(places: &ChainedPlaces, i: TermNumber, p: u64, y: Place, pairs: &[
 // How many terms are looked at. More cost more where nothing is known.
 const LOOKS: usize = 4;
 
-// Whether a pair of the classes a and b as far apart as p and q is found set, with its mirror image.
+// Whether a pair of the classes of x and y as far apart as x and y is found set, with its mirror image.
 pub(crate) fn is_known(places: &ChainedPlaces, x: Place, y: Place, pairs: &[u8]) -> bool
     requires { let P = places.now in (x.class ≤ P.n) × ((y.class ≤ P.n) × ((y.height < top) × Room P.n pairs.now)) }
     ensures { let P = places.now in result ≡ true → Known P.n P.classes.now P.heights.now pairs.now x.class x.height y.class y.height }

@@ -10,7 +10,7 @@ use points::chained::ChainedPlaces;
 use points::places::{Place, linked};
 use types::TermNumber;
 
-// The pair of the points of the classes a and b, if they are as far apart as p and q; tells whether neither class has a second point.
+// The pair of the points of the classes of x and y, if they are as far apart as x and y; tells whether neither class has a second point.
 pub(crate) fn mark_single(
     places: &ChainedPlaces,
     x: Place,

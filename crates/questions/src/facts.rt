@@ -17,5 +17,8 @@ pub struct Facts<'a> {
     pub side_next: &'a [u16],
     pub apart: &'a [u8],
     pub pairs: &'a [u8],
-    pub ghost judging: { Judging reads.n m reads.classes.now reads.heights.now reads.class_first.now reads.class_next.now reads.slot_first.now reads.slot_next.now sides.left_classes.now sides.left_heights.now sides.right_classes.now sides.right_heights.now side_first.now side_next.now apart.now pairs.now },
+    pub ghost judging: { Judging reads.n m reads.classes.now reads.heights.now reads.class_first.now reads.class_next.now
+        reads.slot_first.now reads.slot_next.now
+        sides.left_classes.now sides.left_heights.now sides.right_classes.now sides.right_heights.now
+        side_first.now side_next.now apart.now pairs.now },
 }

@@ -38,7 +38,7 @@ fn shows(left: Place, right: Place, x: Place, y: Place) -> bool
         & (left.height + y.height == right.height + x.height)
 }
 
-// Whether proposition k is a disequality between places as far apart as (a, p) and (b, q).
+// Whether proposition k is a disequality between places as far apart as x and y.
 fn shows_side(k: PropositionNumber, x: Place, y: Place, sides: &SidePlaces) -> bool
     requires { let S = sides.now in Row S.left_classes.now S.left_heights.now S.right_classes.now S.right_heights.now k.0 × ((x.height < top) × (y.height < top)) }
     ensures { let S = sides.now in result ≡ is_row_shown S.left_classes.now S.left_heights.now S.right_classes.now S.right_heights.now x.class x.height y.class y.height k.0 }
@@ -55,11 +55,12 @@ fn shows_side(k: PropositionNumber, x: Place, y: Place, sides: &SidePlaces) -> b
     shows(left, right, x, y)
 }
 
-// Whether a disequality is between places as far apart as (a, p) and (b, q): a walk along those of the same left class and distance.
+// Whether a disequality is between places as far apart as x and y: a walk along those of the same left class and distance.
 fn any_side(facts: &Facts, x: Place, y: Place) -> bool
     requires rows { (x.height < top) × (y.height < top) }
     requires side_chains { x.class ≤ most }
-    ensures { let F = facts.now in Found F.m (OneWay F.sides.left_classes.now F.sides.left_heights.now F.sides.right_classes.now F.sides.right_heights.now F.m x.class x.height y.class y.height) result }
+    ensures { let F = facts.now in
+        Found F.m (OneWay F.sides.left_classes.now F.sides.left_heights.now F.sides.right_classes.now F.sides.right_heights.now F.m x.class x.height y.class y.height) result }
 {
     let mut k = linked(facts.side_first, slot(x.class, x.height + TOP - y.height));
     while k < facts.m {
@@ -71,7 +72,7 @@ fn any_side(facts: &Facts, x: Place, y: Place) -> bool
     false
 }
 
-// Whether a disequality, either way round, says that the places (a, p) and (b, q) are different.
+// Whether a disequality, either way round, says that the places x and y are different.
 fn any_listed(facts: &Facts, x: Place, y: Place) -> bool
     requires rows { (x.height < top) × (y.height < top) }
     requires side_chains { (x.class ≤ most) × (y.class ≤ most) }
@@ -126,7 +127,7 @@ fn any_there(places: &ChainedPlaces, i: TermNumber, at: Place, mirrored: bool, p
     false
 }
 
-// Whether i differs from a dereference that reads class b, as far from what i reads as q from p.
+// Whether i differs from a dereference that reads the class of y, as far from what i reads as y from height p.
 fn any_with(
     places: &ChainedPlaces,
     i: TermNumber,
@@ -159,7 +160,7 @@ fn any_with(
     )
 }
 
-// Whether dereferences that read the classes a and b, as far apart as p and q, differ.
+// Whether dereferences that read the classes of x and y, as far apart as x and y, differ.
 fn any_from(places: &ChainedPlaces, x: Place, y: Place, mirrored: bool, pairs: &[u8]) -> bool
     requires { let P = places.now in (x.class ≤ P.n) × ((y.class ≤ P.n) × ((x.height < top) × ((y.height < top) × Room P.n pairs.now))) }
     ensures { let P = places.now in Found P.n (From P.n P.classes.now P.heights.now pairs.now mirrored x.class x.height y.class y.height) result }
@@ -185,10 +186,12 @@ fn any_values(places: &ChainedPlaces, x: Place, y: Place, sizes: &Sizes, pairs: 
     any_from(places, x, y, false, pairs)
 }
 
-// The answer to the question whether the places (a, p) and (b, q) are one. Public for the crate `columns`.
+// The answer to the question whether the places x and y are one. Public for the crate `columns`.
 pub fn judge(facts: &Facts, x: Place, y: Place) -> Answer
     requires { let F = facts.now in (x.class < F.reads.n) × ((y.class < F.reads.n) × ((x.height < top) × (y.height < top))) }
-    ensures { let F = facts.now in Judged F.reads.n F.m F.reads.classes.now F.reads.heights.now F.sides.left_classes.now F.sides.left_heights.now F.sides.right_classes.now F.sides.right_heights.now F.apart.now F.pairs.now x.class x.height y.class y.height result }
+    ensures { let F = facts.now in Judged F.reads.n F.m F.reads.classes.now F.reads.heights.now
+        F.sides.left_classes.now F.sides.left_heights.now F.sides.right_classes.now F.sides.right_heights.now F.apart.now
+        F.pairs.now x.class x.height y.class y.height result }
 {
     if same_place(x, y) {
         return Answer::Equal;

@@ -425,7 +425,8 @@ pub fn settle(
     pairs: &mut [u8],
     notes: &mut Notes,
 )
-    requires { let P = places.now in Column P.n reads.now read_heights.now × (Led P.n count homes.now leads.now × (Room P.n apart.now × (Room P.n pairs.old × Uniform P.n P.classes.now P.heights.now pairs.old))) }
+    requires { let P = places.now in Column P.n reads.now read_heights.now ×
+        (Led P.n count homes.now leads.now × (Room P.n apart.now × (Room P.n pairs.old × Uniform P.n P.classes.now P.heights.now pairs.old))) }
     ensures { let P = places.now in Done (setting P.n P.classes.now P.heights.now homes.now reads.now read_heights.now apart.now) count leads.now pairs.old pairs.new }
 {
     let mut keys = [512u32; MOST];
