@@ -56,10 +56,10 @@ fn key(class: u32, address: i64) -> u64
     (spread * NUMBERS + c) * 4096 + a / WORD % 4096
 }
 
-// Notes the place of each of the words by the number of its term.
-fn note_places(words: &[u64], places: &mut [usize; MOST]) {
+// Notes the place of each of the words by the number of its term, in 16 bits: each look clears them.
+fn note_places(words: &[u64], places: &mut [u16; MOST]) {
     for (i, word) in words.iter().enumerate() {
-        places[(*word % NUMBERS) as usize] = i;
+        places[(*word % NUMBERS) as usize] = (i % MOST) as u16;
     }
 }
 
@@ -168,9 +168,8 @@ impl<'a> LabelledTerms<'a> {
         }
     }
 
-    // The readers of each class.
-    fn readers(&self) -> Readers {
-        let mut readers = [Reader::None; MOST];
+    // Notes the readers of each class, in lent notes: as a result they would be copied.
+    fn note_readers(&self, readers: &mut Readers) {
         for t in 0..self.terms.len() {
             let x = TermNumber(t);
             if self.is_deref(x) {
@@ -178,7 +177,6 @@ impl<'a> LabelledTerms<'a> {
                 readers[class] = self.note_reader(readers[class], x);
             }
         }
-        readers
     }
 
     // What is noted for the class that the dereference x reads.
@@ -205,26 +203,20 @@ impl<'a> LabelledTerms<'a> {
     }
 
     // Whether the dereference x has the label of the reader noted for its class; or these are many, and its word stands at its noted place.
-    fn stands(
-        &self,
-        readers: &Readers,
-        words: &[u64],
-        places: &[usize; MOST],
-        x: TermNumber,
-    ) -> bool
+    fn stands(&self, readers: &Readers, words: &[u64], places: &[u16; MOST], x: TermNumber) -> bool
         requires { (x.0 < count self.now) × ((records self.now x.0).kind ≡ deref_kind) }
         ensures { IsTrue result → Shown (count self.now) (records self.now) (labels self.now) readers.now words.now (length words.now) x.0 }
     {
         let reader = self.reader_of(readers, x);
         if let Reader::Many = reader {
-            let i = places[x.0];
+            let i = usize::from(places[x.0]);
             return i < words.len() && words[i] == self.word(x);
         }
         self.is_alike(reader, x)
     }
 
     // Whether each dereference stands so.
-    fn all_stand(&self, readers: &Readers, words: &[u64], places: &[usize; MOST]) -> bool
+    fn all_stand(&self, readers: &Readers, words: &[u64], places: &[u16; MOST]) -> bool
         ensures { Standing (count self.now) (records self.now) (labels self.now) readers.now words.now (length words.now) result }
     {
         for t in 0..self.terms.len() {
@@ -303,7 +295,7 @@ impl<'a> LabelledTerms<'a> {
         &self,
         readers: &Readers,
         words: &[u64],
-        places: &[usize; MOST],
+        places: &[u16; MOST],
     ) -> Option<(TermNumber, TermNumber)>
         ensures { Looked (count self.now) (records self.now) (labels self.now) result }
     {
@@ -336,8 +328,9 @@ pub fn unequal_pair(
     };
     let mut buffer = [0u64; MOST];
     let mut spare = [0u64; MOST];
-    let mut places = [0usize; MOST];
-    let readers = labelled.readers();
+    let mut places = [0u16; MOST];
+    let mut readers = [Reader::None; MOST];
+    labelled.note_readers(&mut readers);
     let count = labelled.list_words(&readers, &mut buffer);
     let words = &mut buffer[..count];
     sort(words, &mut spare[..count]);

@@ -17,7 +17,7 @@ const FEW: u32 = 5;
 // A class with more points has many.
 const MANY: u32 = 160;
 
-#[derive(Drop)]
+#[derive(Clone, Copy)]
 pub struct Notes {
     // How many points each class has.
     points: [u32; CLASSES],
@@ -66,9 +66,12 @@ impl Notes {
         self.points[class as usize % CLASSES]
     }
 
-    // Whether two classes or more have many points.
+    // Whether two classes or more have many points. The class MOST, of the terms that are not their own homes in a full table, is none.
     pub fn are_many(&self) -> bool {
-        2 <= self.points.iter().filter(|points| MANY < **points).count()
+        2 <= self.points[..MOST]
+            .iter()
+            .filter(|points| MANY < **points)
+            .count()
     }
 
     // Whether one of two classes has few points.

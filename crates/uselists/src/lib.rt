@@ -13,7 +13,7 @@ use unionfind::Root;
 const SLOTS: usize = 4096;
 
 // Notes of 16 bits, so that the memory stays small: one more than a number, or 0 for none.
-#[derive(Drop)]
+#[derive(Clone, Copy)]
 pub struct UseLists {
     // By list of uses its first use, its last, and how many it has. Only `last` and `size` hold the number itself.
     first: [u16; MOST],
