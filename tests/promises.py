@@ -8,7 +8,8 @@ Run from the repository's root: python3 tests/promises.py. Last line: "N passed,
 - Every file and every must-fail edit that is named exists. Every statement of the page of statements is named.
 - The last table names each edit once. No row of a table is longer than two lines of 140 characters.
 - The numbers of functions are those that the crates have, methods too.
-- Each public function that is not called from outside the repository names the crates that use it, after "Public for".
+- Each public function that is not called from outside the repository names the crates that use it, after "Public for"; a method names those
+  that use its type, unless the crate is for all.
 - Every path of the repository that a page names is there, or a command makes it, and `rt` is called by commands that it has.
 """
 
@@ -47,6 +48,8 @@ FUNCTION = re.compile(r'^ *(?:pub(?:\(crate\))? )?(?:extern "C" )?fn ', re.MULTI
 DERIVE = re.compile(r"#\[derive\(([^)]*)\)\]")
 DERIVED = re.compile(r"\b(?:Debug|PartialEq)\b")
 PUBLIC = re.compile(r'^pub fn (\w+)', re.MULTILINE)
+METHOD = re.compile(r'^    pub fn (\w+)', re.MULTILINE)
+IMPL = re.compile(r'^impl(?:<[^>]*>)? (\w+)', re.MULTILINE)
 USED = re.compile(r"\b([a-z_]+(?:::[a-z_]+)*)::(?:(\w+)\b(?!::)|\{([^}]*)\})")
 
 
@@ -178,12 +181,20 @@ class Check:
                 name = found[1]
                 if name in ENTRIES.get(crate, []) or name in FORMS.get(crate, []):
                     continue
-                above = re.search(r"((?://.*\n)*)$", text[: found.start()])[1]
-                said = set(re.findall(r"`(\w+)`", " ".join(re.findall(r"[Pp]ublic for[^.;]*", (above + head).replace("\n// ", " ")))))
-                users = {other.parts[1] for other, names in used.items() if other.parts[1] != crate and (crate, name) in names}
-                self.say(bool(users), f"{path}: {name} is public and no other crate uses it")
-                self.say(users <= said, f"{path}: {name} does not say that it is public for {', '.join(sorted(users - said))}")
+                self.said(path, name, name, text[: found.start()], head, used)
+            for found in METHOD.finditer(text):
+                before = text[: found.start()]
+                if "for all crates" not in head:
+                    self.said(path, found[1], IMPL.findall(before)[-1], before, head, used)
 
+    def said(self, path, name, item, before, head, used):
+        """Whether a function says which crates use an item: itself, or its type if it is a method."""
+        above = re.search(r"((?: *//.*\n)*)$", before)[1].replace("    //", "//")
+        said = set(re.findall(r"`(\w+)`", " ".join(re.findall(r"[Pp]ublic for[^.;]*", (above + head).replace("\n// ", " ")))))
+        crate = path.parts[1]
+        users = {other.parts[1] for other, names in used.items() if other.parts[1] != crate and (crate, item) in names}
+        self.say(bool(users), f"{path}: {name} is public and no other crate uses {item}")
+        self.say(users <= said, f"{path}: {name} does not say that it is public for {', '.join(sorted(users - said))}")
 
     def pages(self):
         """The paths and commands that the pages name."""

@@ -1,10 +1,10 @@
 // Use lists, where congruence closure looks for joins: for each class the dereferences over it, one for each address, those to look at
 // next, and a table from addresses to dereferences. Nothing here is relied on: what it says is tested before it is used, so it promises
-// nothing, and cuts each number to the cells that there are. Public for the crates `joins` and `congruence`.
+// nothing but that new ones are empty, and cuts each number to the cells that there are. Public for the crates `joins` and `congruence`.
 
 #![tactic(auto)]
 
-ghost use Rattle.std.specs.Prelude.{◌^◌, ◌<◌};
+ghost use Rattle.std.specs.Prelude.{◌≡◌, ◌^◌, ◌<◌};
 
 use offsets::bits;
 use types::{MOST, TermNumber};
@@ -85,7 +85,10 @@ fn probe(key: u64, i: usize) -> usize {
 const TRIES: usize = MOST;
 
 impl UseLists {
-    pub fn new() -> Self {
+    // No uses: none waits, and no term was looked at.
+    pub fn new() -> Self
+        ensures { (result.waiting ≡ 0) × (result.looked ≡ 0) }
+    {
         UseLists {
             first: [0; MOST],
             last: [0; MOST],
