@@ -1,10 +1,11 @@
 // Use lists, where congruence closure looks for joins: for each class the dereferences over it, one for each address, those to look at
 // next, and a table from addresses to dereferences. Nothing here is relied on: what it says is tested before it is used, so it promises
-// nothing but that new ones are empty, and cuts each number to the cells that there are. Public for the crates `joins` and `congruence`.
+// no more than ranges, and that new lists are empty, and cuts each number to the cells that there are. Public for the crates `joins` and
+// `congruence`.
 
 #![tactic(auto)]
 
-ghost use Rattle.std.specs.Prelude.{◌≡◌, ◌^◌, ◌<◌};
+ghost use Rattle.std.specs.Prelude.{◌≡◌, ◌^◌, ◌<◌, IfSome, replicate};
 
 use offsets::bits;
 use types::{MOST, TermNumber};
@@ -39,7 +40,10 @@ fn note(x: usize) -> u16 {
     (x % MOST + 1) as u16
 }
 
-fn noted(n: u16) -> Option<usize> {
+// The number that is noted.
+fn noted(n: u16) -> Option<usize>
+    ensures { IfSome result (λ x. x < 2 ^ 16) }
+{
     usize::from(n).checked_sub(1)
 }
 
@@ -85,9 +89,12 @@ fn probe(key: u64, i: usize) -> usize {
 const TRIES: usize = MOST;
 
 impl UseLists {
-    // No uses: none waits, and no term was looked at.
+    // No uses and no addresses; none waits, and no term was looked at.
     pub fn new() -> Self
-        ensures { (result.waiting ≡ 0) × (result.looked ≡ 0) }
+        ensures lists { let zeros = replicate 512 0 in
+            (result.first ≡ zeros) × ((result.last ≡ zeros) × ((result.size ≡ zeros) × ((result.next ≡ zeros) × (result.list ≡ zeros)))) }
+        ensures looks { (result.waiting ≡ 0) × (result.looked ≡ 0) }
+        ensures addresses { let zeros = replicate 512 0 in (result.slots ≡ replicate 4096 0) × ((result.keys ≡ zeros) × (result.shifts ≡ zeros)) }
     {
         UseLists {
             first: [0; MOST],
